@@ -1,0 +1,3 @@
+// What a book means, and the packed book. docs/RULES.md, "Books", states the meaning.
+pub mod book;
+pub mod standing;
