@@ -15,8 +15,10 @@ pub fn moved_and_back(form: Form, limit: u32) -> Result<Form, HandedBack>
     ensures { λ r. ⌜ MovedAndBack form limit r ⌝ }
 {
     let terms = form.terms();
-    let moved = form.restate(limit, terms.shares)?;
-    moved.restate(terms.limit, terms.shares)
+    match form.restate(limit, terms.shares) {
+        Ok(moved) => moved.restate(terms.limit, terms.shares),
+        Err(back) => Err(back),
+    }
 }
 
 fn needs_better_price(form: &Form) -> bool
