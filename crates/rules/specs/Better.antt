@@ -4,7 +4,7 @@ use Prim.Native.Nat.{ℕ, _+_, _/_}
 use lib.Dec.{eqb}
 use Rattle.std.specs.declared.option.Option.{Option}
 use Rattle.std.specs.declared.option.Option.the-variants.{Some, None}
-use Rattle.rules.specs.Sides.{Rule, reaches}
+use Rattle.rules.specs.Sides.{Rule, reaches, bids, asks}
 use Rattle.rules.specs.declared.price.Quote.{Quote}
 use Rattle.rules.specs.declared.price.Threshold.{Threshold}
 use Rattle.rules.specs.declared.price.Threshold.the-variants.{Any, Never, From}
@@ -15,11 +15,23 @@ abbrev pub on : SideName → Quote → Option ℕ
 on Bid quote = quote .bid
 on Ask quote = quote .ask
 
+-- the quote whose price on this side is own, and on the other side other
+abbrev pub placed : SideName → (own other : Option ℕ) → Quote
+placed Bid own other = record { bid = own; ask = other }
+placed Ask own other = record { bid = other; ask = own }
+
 -- of two prices that may be absent, the one that comes first
 abbrev pub first-of : Rule → Option ℕ → Option ℕ → Option ℕ
 first-of rule None q = q
 first-of rule (Some p) None = Some p
 first-of rule (Some p) (Some q) = Some (cond (rule .ahead q p) q p)
+
+-- on each side the first of our own displayed price and the away best
+abbrev pub best-of : (ours away : Quote) → Quote
+best-of ours away = record {
+  bid = first-of bids (ours .bid) (away .bid);
+  ask = first-of asks (ours .ask) (away .ask);
+}
 
 -- both exist, and ask minus bid equals one increment
 abbrev pub one-apart : ℕ → Option ℕ → Option ℕ → Bool

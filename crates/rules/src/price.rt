@@ -1,8 +1,7 @@
 // Best prices, the improvement, and better prices.
 ghost use mathlib.Core.Path.{_≡_};
 ghost use Prim.Native.Nat.{ℕ, _<_};
-ghost use Rattle.rules.specs.Better.{on, first-of, improvement-at, better, threshold, meets};
-ghost use Rattle.rules.specs.Sides.{bids, asks};
+ghost use Rattle.rules.specs.Better.{on, placed, first-of, best-of, improvement-at, better, threshold, meets};
 use crate::side::Asks;
 use crate::side::AsksSide;
 use crate::side::Bids;
@@ -35,10 +34,25 @@ impl Quote {
         }
     }
 
+    // The quote whose price on this side is own.
+    pub fn placed(side: SideName, own: Option<u32>, other: Option<u32>) -> Quote
+        ensures { λ r. ⌜ r ≡ placed side own other ⌝ }
+    {
+        match side {
+            SideName::Bid => Quote {
+                bid: own,
+                ask: other,
+            },
+            SideName::Ask => Quote {
+                bid: other,
+                ask: own,
+            },
+        }
+    }
+
     // The best prices: on each side the first of our own displayed price and the away best.
     pub fn best(ours: Quote, away: Quote) -> Quote
-        ensures bid { λ r. ⌜ r .bid ≡ first-of bids (ours .bid) (away .bid) ⌝ }
-        ensures ask { λ r. ⌜ r .ask ≡ first-of asks (ours .ask) (away .ask) ⌝ }
+        ensures { λ r. ⌜ r ≡ best-of ours away ⌝ }
     {
         Quote {
             bid: first::<Bids>(ours.bid, away.bid),
