@@ -1,0 +1,96 @@
+-- The candidate is the front order of the book that it names, and a trade with it takes an order out or fills the entry.
+use mathlib.Core.Path.{_≡_, refl, ap, subst, _∙_}
+use mathlib.Core.Bool.{Bool, true, false, cond, _&&_}
+use mathlib.Core.List.{List, [], _∷_}
+use mathlib.Core.Logic.{_⊎_, inl, inr}
+use Prim.Native.Nat.{ℕ, _+_, _-_, _≤_, _<_, min}
+use native.Mathlib.Numerals.{add-one}
+use native.Mathlib.Omega.{arith}
+use lib.Dec.{eqb, leb}
+use borrow.Author.Tests.{eqb-false}
+use lib.ListN.{length}
+use Rattle.std.specs.declared.option.Option.{Option}
+use Rattle.std.specs.declared.option.Option.the-variants.{Some, None}
+use Rattle.std.proofs.shelf.Ways.{tells}
+use Rattle.books.specs.Lists.{taken, less, AllSound, sound, front-of}
+use Rattle.books.specs.declared.standing.Standing.{Standing}
+use Rattle.rules.specs.Sides.{Rule}
+use Rattle.matching.specs.Matching.{front-if, front-price, best-against, displayed-passes, dark-passes, displayed-candidate, dark-candidate, chosen, candidate, Scene, displayed-one, dark-one}
+use Rattle.matching.specs.declared.candidate.Around.{Around}
+use Rattle.matching.specs.declared.candidate.Candidate.{Candidate}
+use Rattle.matching.specs.declared.candidate.Entry.{Entry}
+
+-- the book that a candidate names has it in front
+abbrev pub InFront : Candidate → (displayed dark : List Standing) → Type 0
+InFront c displayed dark = front-of (cond (c .dark) dark displayed) ≡ Some (c .order)
+
+none-some : {X : Type 0} {x : X} → None ≡ Some x → ⊥
+none-some e = let z : _≡_ {A = ℕ} 0 1 = cc in omega arith
+
+some-same : {X : Type 0} {x y : X} → Some x ≡ Some y → x ≡ y
+some-same e = cc
+
+front-if-front : (passes : ℕ → Bool) (orders : List Standing) (o : Standing) → front-if passes orders ≡ Some o → front-of orders ≡ Some o
+front-if-front passes [] o h = h
+front-if-front passes (x ∷ xs) o h =
+    let P : Bool → Type 0 = λ b. cond b (Some x) None ≡ Some o → Some x ≡ Some o in
+    elim (passes (x .price)) as P [ true ↦ λ e. e | false ↦ λ e. absurd (none-some e) ] h
+
+chosen-front : (rule : Rule) (d k : Option Standing) (displayed dark : List Standing) (c : Candidate) → ((o : Standing) → d ≡ Some o → front-of displayed ≡ Some o) → ((o : Standing) → k ≡ Some o → front-of dark ≡ Some o) → chosen rule d k ≡ Some c → InFront c displayed dark
+chosen-front rule None None displayed dark c hd hk e = absurd (none-some e)
+chosen-front rule (Some d) None displayed dark c hd hk e = subst (λ x. InFront x displayed dark) (some-same e) (hd d refl)
+chosen-front rule None (Some k) displayed dark c hd hk e = subst (λ x. InFront x displayed dark) (some-same e) (hk k refl)
+chosen-front rule (Some d) (Some k) displayed dark c hd hk e =
+    let P : Bool → Type 0 = λ b. InFront (cond b (dark-one k) (displayed-one d)) displayed dark in
+    subst (λ x. InFront x displayed dark) (some-same e)
+    (elim (rule .ahead (k .price) (d .price)) as P [ true ↦ hk k refl | false ↦ hd d refl ])
+
+open-some : {X : Type 0} (b : Bool) (x : Option X) (y : X) → cond b None x ≡ Some y → (b ≡ false) × (x ≡ Some y)
+open-some true x y e = absurd (none-some e)
+open-some false x y e = (refl, e)
+
+module _ (rule : Rule) (entry : Entry) (around : Around) (scene : Scene) (c : Candidate) (is : candidate rule entry around scene ≡ Some c) where
+  opens : (eqb (scene .shares) 0 ≡ false) × (chosen rule (displayed-candidate rule entry around (scene .displayed)) (dark-candidate rule entry around (front-price (scene .displayed)) (scene .dark)) ≡ Some c)
+  opens = open-some (eqb (scene .shares) 0) _ c is
+
+  pub shares-open : 0 < scene .shares
+  shares-open = let some = eqb-false (scene .shares) 0 (opens .0) in omega arith
+
+  pub candidate-front : InFront c (scene .displayed) (scene .dark)
+  candidate-front =
+      chosen-front rule (displayed-candidate rule entry around (scene .displayed))
+      (dark-candidate rule entry around (front-price (scene .displayed)) (scene .dark)) (scene .displayed) (scene .dark) c
+      (front-if-front (displayed-passes rule entry around) (scene .displayed))
+      (front-if-front (dark-passes rule entry around (best-against rule around (front-price (scene .displayed)))) (scene .dark))
+      (opens .1)
+
+-- what is taken from the front order for an entry of n shares
+module _ (o : Standing) (os : List Standing) (n : ℕ) (sound-o : sound o ≡ true) (some : 0 < n) where
+  sound-shares : 0 < o .shares
+  sound-shares = grind (arith, tells)
+
+  accepted : (leb 1 (min (o .shares) n) && leb (min (o .shares) n) (o .shares)) ≡ true
+  accepted = grind (arith, tells)
+
+  pub taken-is : taken (o ∷ os) (min (o .shares) n) .list ≡ less (o ∷ os) (min (o .shares) n)
+  taken-is = rw accepted
+
+  pub taken-gone : 0 < n - min (o .shares) n → taken (o ∷ os) (min (o .shares) n) .list ≡ os
+  taken-gone more =
+      let all : eqb (min (o .shares) n) (o .shares) ≡ true = grind (arith, tells) in
+      taken-is ∙ rw all
+
+-- where the entry is not filled, the order goes
+pub one-fewer : (orders : List Standing) (o : Standing) (n : ℕ) → front-of orders ≡ Some o → AllSound orders → 0 < n → 0 < n - min (o .shares) n → length (taken orders (min (o .shares) n) .list) + 1 ≡ length orders
+one-fewer [] o n front sounds some more = absurd (none-some front)
+one-fewer (x ∷ xs) o n front sounds some more =
+    let P : Standing → Type 0 = λ y. 0 < n - min (y .shares) n → length (taken (x ∷ xs) (min (y .shares) n) .list) + 1 ≡ length (x ∷ xs) in
+    subst P (some-same front) (λ h. ap (λ ys. length ys + 1) (taken-gone x xs n (sounds .0) some h) ∙ add-one (length xs)) more
+
+pub some-stand : (orders : List Standing) (o : Standing) → front-of orders ≡ Some o → 0 < length orders
+some-stand [] o front = absurd (none-some front)
+some-stand (x ∷ xs) o front = omega arith
+
+pub some-shares : (orders : List Standing) (o : Standing) → front-of orders ≡ Some o → AllSound orders → 0 < o .shares
+some-shares [] o front sounds = absurd (none-some front)
+some-shares (x ∷ xs) o front sounds = subst (λ y. 0 < y .shares) (some-same front) (sound-shares x xs 1 (sounds .0) (omega arith))

@@ -1,0 +1,73 @@
+-- A loop of steps: what is made so far, and the steps that are left, give the whole.
+use mathlib.Core.Path.{_≡_, refl, ap, sym, _∙_}
+use mathlib.Core.List.{List, [], _∷_, _++_, append-assoc, append-nil}
+use Prim.Native.Nat.{ℕ, zero, suc, _+_, _-_, _≤_, _<_}
+use native.Mathlib.Omega.{arith}
+use lib.ListN.{length, set, length-append}
+use Rattle.std.specs.declared.option.Option.{Option}
+use Rattle.std.specs.declared.option.Option.the-variants.{Some, None}
+use Rattle.matching.specs.Trades.{Step, Steps, go-on, steps, written-from}
+use Rattle.matching.specs.declared.trade.Trade.{Trade}
+use Rattle.matching.proofs.Writing.{written-from-more}
+
+module _ {X : Type 0} (next : X → Option (Step X)) where
+  pub steps-more : (n : ℕ) (x : X) (s : Step X) → next x ≡ Some s → steps next (suc n) x ≡ go-on (Some s) x (steps next n)
+  unfolding steps
+  steps-more n x s is = ap (λ o. go-on o x (steps next n)) is
+
+  pub steps-none : (n : ℕ) (x : X) → next x ≡ None → steps next n x ≡ record { trades = []; state = x }
+  unfolding steps
+  steps-none zero x none = refl
+  steps-none (suc n) x none = ap (λ o. go-on o x (steps next n)) none
+
+  -- n steps were given at the start; the trades made stand in the list from the record with the index at on
+  pub record Progress (n : ℕ) (start : X) (at : ℕ) (list : List Trade) (x : X) (listed : List Trade) (count : ℕ) : Type 0 where
+    pub made : List Trade
+    pub rest : ℕ
+    pub within : count + rest ≡ at + n
+    pub counted : count ≡ at + length made
+    pub written-so : listed ≡ written-from at made list
+    pub trades : made ++ steps next rest x .trades ≡ steps next n start .trades
+    pub ends : steps next rest x .state ≡ steps next n start .state
+
+  abbrev pub progress-none : (n : ℕ) (start : X) (at : ℕ) (list listed : List Trade) → listed ≡ written-from at [] list → Progress n start at list start listed at
+  progress-none n start at list listed same = record {
+    made = [];
+    rest = n;
+    within = refl;
+    counted = omega arith;
+    written-so = same;
+    trades = refl;
+    ends = refl;
+  }
+
+  module _ (n : ℕ) (start : X) (at : ℕ) (list : List Trade) (x : X) (listed : List Trade) (count : ℕ) (p : Progress n start at list x listed count) where
+    abbrev pub progress-more : (s : Step X) → next x ≡ Some s → 0 < p .rest → Progress n start at list (s .after) (set listed count (s .trade)) (count + 1)
+    progress-more s is left =
+        let m = p .rest - 1 in
+        let more : p .rest ≡ suc m = omega arith in
+        let step : steps next (p .rest) x ≡ go-on (Some s) x (steps next m) = ap (λ k. steps next k x) more ∙ steps-more m x s is in
+        record {
+          made = p .made ++ s .trade ∷ [];
+          rest = m;
+          within = omega (arith, p .within);
+          counted = omega (arith, p .counted, length-append (p .made) (s .trade ∷ []));
+          written-so =
+              ap (λ l. set l count (s .trade)) (p .written-so) ∙ ap (λ k. set (written-from at (p .made) list) k (s .trade)) (p .counted)
+              ∙ written-from-more at (p .made) (s .trade) list;
+          trades = append-assoc (p .made) (s .trade ∷ []) _ ∙ ap (λ r. p .made ++ r .trades) (sym step) ∙ p .trades;
+          ends = ap (λ r. r .state) (sym step) ∙ p .ends;
+        }
+
+    module _ (none : next x ≡ None) where
+      pub progress-trades : p .made ≡ steps next n start .trades
+      progress-trades = sym (append-nil (p .made)) ∙ ap (λ r. p .made ++ r .trades) (sym (steps-none (p .rest) x none)) ∙ p .trades
+
+      pub progress-state : x ≡ steps next n start .state
+      progress-state = ap (λ r. r .state) (sym (steps-none (p .rest) x none)) ∙ p .ends
+
+      pub progress-count : count ≡ at + length (steps next n start .trades)
+      progress-count = p .counted ∙ ap (λ ts. at + length ts) progress-trades
+
+      pub progress-list : listed ≡ written-from at (steps next n start .trades) list
+      progress-list = p .written-so ∙ ap (λ ts. written-from at ts list) progress-trades

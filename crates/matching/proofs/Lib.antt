@@ -1,0 +1,4 @@
+pub mod Writing
+pub mod Going
+pub mod Fronts
+pub mod Turns

@@ -1,0 +1,3 @@
+pub mod Trades
+pub mod Matching
+pub mod Looking
