@@ -6,9 +6,9 @@ use native.Mathlib.Omega.{arith}
 use lib.ListN.{length, set, length-append}
 use Rattle.std.specs.declared.option.Option.{Option}
 use Rattle.std.specs.declared.option.Option.the-variants.{Some, None}
-use Rattle.matching.specs.Trades.{Step, Steps, go-on, steps, written-from}
+use Rattle.matching.specs.Trades.{Step, Steps, go-on, steps, written}
 use Rattle.matching.specs.declared.trade.Trade.{Trade}
-use Rattle.matching.proofs.Writing.{written-from-more}
+use Rattle.matching.proofs.Writing.{written-more}
 
 module _ {X : Type 0} (next : X → Option (Step X)) where
   pub steps-more : (n : ℕ) (x : X) (s : Step X) → next x ≡ Some s → steps next (suc n) x ≡ go-on (Some s) x (steps next n)
@@ -20,29 +20,29 @@ module _ {X : Type 0} (next : X → Option (Step X)) where
   steps-none zero x none = refl
   steps-none (suc n) x none = ap (λ o. go-on o x (steps next n)) none
 
-  -- n steps were given at the start; the trades made stand in the list from the record with the index at on
-  pub record Progress (n : ℕ) (start : X) (at : ℕ) (list : List Trade) (x : X) (listed : List Trade) (count : ℕ) : Type 0 where
+  -- n steps were given at the start; the trades made stand at the front of the list
+  pub record Progress (n : ℕ) (start : X) (list : List Trade) (x : X) (listed : List Trade) (count : ℕ) : Type 0 where
     pub made : List Trade
     pub rest : ℕ
-    pub within : count + rest ≡ at + n
-    pub counted : count ≡ at + length made
-    pub written-so : listed ≡ written-from at made list
+    pub within : count + rest ≡ n
+    pub counted : count ≡ length made
+    pub written-so : listed ≡ written made list
     pub trades : made ++ steps next rest x .trades ≡ steps next n start .trades
     pub ends : steps next rest x .state ≡ steps next n start .state
 
-  abbrev pub progress-none : (n : ℕ) (start : X) (at : ℕ) (list listed : List Trade) → listed ≡ written-from at [] list → Progress n start at list start listed at
-  progress-none n start at list listed same = record {
+  abbrev pub progress-none : (n : ℕ) (start : X) (list : List Trade) → Progress n start list start list 0
+  progress-none n start list = record {
     made = [];
     rest = n;
-    within = refl;
-    counted = omega arith;
-    written-so = same;
+    within = omega arith;
+    counted = refl;
+    written-so = refl;
     trades = refl;
     ends = refl;
   }
 
-  module _ (n : ℕ) (start : X) (at : ℕ) (list : List Trade) (x : X) (listed : List Trade) (count : ℕ) (p : Progress n start at list x listed count) where
-    abbrev pub progress-more : (s : Step X) → next x ≡ Some s → 0 < p .rest → Progress n start at list (s .after) (set listed count (s .trade)) (count + 1)
+  module _ (n : ℕ) (start : X) (list : List Trade) (x : X) (listed : List Trade) (count : ℕ) (p : Progress n start list x listed count) where
+    abbrev pub progress-more : (s : Step X) → next x ≡ Some s → 0 < p .rest → Progress n start list (s .after) (set listed count (s .trade)) (count + 1)
     progress-more s is left =
         let m = p .rest - 1 in
         let more : p .rest ≡ suc m = omega arith in
@@ -53,8 +53,8 @@ module _ {X : Type 0} (next : X → Option (Step X)) where
           within = omega (arith, p .within);
           counted = omega (arith, p .counted, length-append (p .made) (s .trade ∷ []));
           written-so =
-              ap (λ l. set l count (s .trade)) (p .written-so) ∙ ap (λ k. set (written-from at (p .made) list) k (s .trade)) (p .counted)
-              ∙ written-from-more at (p .made) (s .trade) list;
+              ap (λ l. set l count (s .trade)) (p .written-so) ∙ ap (λ k. set (written (p .made) list) k (s .trade)) (p .counted)
+              ∙ written-more (p .made) (s .trade) list;
           trades = append-assoc (p .made) (s .trade ∷ []) _ ∙ ap (λ r. p .made ++ r .trades) (sym step) ∙ p .trades;
           ends = ap (λ r. r .state) (sym step) ∙ p .ends;
         }
@@ -66,8 +66,8 @@ module _ {X : Type 0} (next : X → Option (Step X)) where
       pub progress-state : x ≡ steps next n start .state
       progress-state = ap (λ r. r .state) (sym (steps-none (p .rest) x none)) ∙ p .ends
 
-      pub progress-count : count ≡ at + length (steps next n start .trades)
-      progress-count = p .counted ∙ ap (λ ts. at + length ts) progress-trades
+      pub progress-count : count ≡ length (steps next n start .trades)
+      progress-count = p .counted ∙ ap (λ ts. length ts) progress-trades
 
-      pub progress-list : listed ≡ written-from at (steps next n start .trades) list
-      progress-list = p .written-so ∙ ap (λ ts. written-from at ts list) progress-trades
+      pub progress-list : listed ≡ written (steps next n start .trades) list
+      progress-list = p .written-so ∙ ap (λ ts. written ts list) progress-trades

@@ -39,12 +39,12 @@ module _ (o : Standing) (displayed dark : List Standing) where
 module _ (rule : Rule) (entry : Entry) (around : Around) where
   -- the steps that are left suffice while anything is open
   pub record Turning (start : Scene) (list : List Trade) (scene : Scene) (listed : List Trade) (count : ℕ) : Type 0 where
-    pub so-far : Progress (match-step rule entry around) (standing start) start 0 list scene listed count
+    pub so-far : Progress (match-step rule entry around) (standing start) start list scene listed count
     pub enough : 0 < scene .shares → standing scene ≤ so-far .rest
 
   pub turning-none : (start : Scene) (list : List Trade) → Turning start list start list 0
   turning-none start list = record {
-    so-far = progress-none (match-step rule entry around) (standing start) start 0 list list refl;
+    so-far = progress-none (match-step rule entry around) (standing start) start list;
     enough = λ _. omega arith;
   }
 
@@ -63,7 +63,7 @@ module _ (rule : Rule) (entry : Entry) (around : Around) where
         let one = stands (c .order) (scene .displayed) (scene .dark) (c .dark) front in
         record {
           so-far =
-              progress-more (match-step rule entry around) (standing start) start 0 list scene listed count (p .so-far) _
+              progress-more (match-step rule entry around) (standing start) start list scene listed count (p .so-far) _
               (ap (trade-step entry scene) is) (omega (arith, p .enough some));
           enough = λ left. omega (arith, p .enough some, fewer (c .order) (scene .displayed) (scene .dark) sd sk (c .dark) (scene .shares) front some left);
         }
@@ -74,11 +74,11 @@ module _ (rule : Rule) (entry : Entry) (around : Around) where
   pub turning-all : (start : Scene) (list : List Trade) (scene : Scene) (listed : List Trade) (count : ℕ) → Turning start list scene listed count → candidate rule entry around scene ≡ None → Leaves (matched rule entry around start) (scene .displayed) (scene .dark) list listed (record { shares = scene .shares; trades = count })
   turning-all start list scene listed count p none =
       let stop = ap (trade-step entry scene) none in
-      let end = progress-state (match-step rule entry around) (standing start) start 0 list scene listed count (p .so-far) stop in
+      let end = progress-state (match-step rule entry around) (standing start) start list scene listed count (p .so-far) stop in
       record {
         displayed-is = ap (λ s. s .displayed) end;
         dark-is = ap (λ s. s .dark) end;
         shares-is = ap (λ s. s .shares) end;
-        trades-is = omega (arith, progress-count (match-step rule entry around) (standing start) start 0 list scene listed count (p .so-far) stop);
-        list-is = progress-list (match-step rule entry around) (standing start) start 0 list scene listed count (p .so-far) stop;
+        trades-is = progress-count (match-step rule entry around) (standing start) start list scene listed count (p .so-far) stop;
+        list-is = progress-list (match-step rule entry around) (standing start) start list scene listed count (p .so-far) stop;
       }

@@ -12,7 +12,7 @@ use Rattle.books.specs.declared.standing.Standing.{Standing}
 use Rattle.rules.specs.Better.{on, placed, best-of, better}
 use Rattle.rules.specs.Sides.{Rule}
 use Rattle.rules.specs.declared.price.Quote.{Quote}
-use Rattle.matching.specs.Trades.{Step, Steps, steps, written-from}
+use Rattle.matching.specs.Trades.{Step, Steps, steps, written}
 use Rattle.matching.specs.declared.candidate.Around.{Around}
 use Rattle.matching.specs.declared.candidate.Candidate.{Candidate}
 use Rattle.matching.specs.declared.candidate.Entry.{Entry}
@@ -124,4 +124,4 @@ pub record Leaves (m : Steps Scene) (displayed dark : List Standing) (list liste
   pub dark-is : dark ≡ m .state .dark
   pub shares-is : left .shares ≡ m .state .shares
   pub trades-is : left .trades ≡ length (m .trades)
-  pub list-is : listed ≡ written-from 0 (m .trades) list
+  pub list-is : listed ≡ written (m .trades) list

@@ -1,7 +1,6 @@
 -- Trades that follow one another, and the caller's list that receives them.
-use mathlib.Core.List.{List, [], _∷_, _++_}
+use mathlib.Core.List.{List, [], _∷_}
 use Prim.Native.Nat.{ℕ, zero, suc}
-use lib.ListN.{take, drop}
 use Rattle.std.specs.declared.option.Option.{Option}
 use Rattle.std.specs.declared.option.Option.the-variants.{Some, None}
 use Rattle.matching.specs.declared.trade.Trade.{Trade}
@@ -29,7 +28,3 @@ abbrev pub written : List Trade → (list : List Trade) → List Trade
 written [] list = list
 written (t ∷ ts) [] = []
 written (t ∷ ts) (x ∷ xs) = t ∷ written ts xs
-
--- the same, from the record with that index on
-abbrev pub written-from : (at : ℕ) → List Trade → (list : List Trade) → List Trade
-written-from at trades list = take at list ++ written trades (drop at list)
