@@ -1,0 +1,5 @@
+mod Tallies
+mod Sounds
+mod Spots
+mod Ranks
+mod Arranging

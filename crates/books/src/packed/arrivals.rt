@@ -1,0 +1,21 @@
+// Up to 32 orders by arrival, oldest first.
+ghost use mathlib.Core.Bool.{true};
+ghost use mathlib.Core.Path.{_≡_};
+ghost use Prim.Native.Nat.{_≤_};
+ghost use lib.ListN.{length, take};
+ghost use Rattle.books.specs.Priority.{all-sound, Distinct};
+use crate::standing::Standing;
+
+mod calls;
+
+pub const PLACES: usize = 32;
+
+#[derive(Drop)]
+pub struct Arrivals {
+    spots: [Standing; 32],
+    count: usize,
+    ghost size: { length spots ≡ 32 },
+    ghost within: { count ≤ 32 },
+    ghost sound: { all-sound (take count spots) ≡ true },
+    ghost distinct: { Distinct (take count spots) },
+}
