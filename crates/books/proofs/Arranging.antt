@@ -3,20 +3,24 @@ use mathlib.Core.Path.{_≡_, refl, sym, ap, subst, _∙_}
 use mathlib.Core.Bool.{Bool, true, false, not, cond, _&&_}
 use mathlib.Core.List.{List, [], _∷_, _++_, map}
 use mathlib.Core.Logic.{⊎-elim}
-use Prim.Native.Nat.{ℕ, _+_, _-_, _<_, _≤_}
+use Prim.Native.Nat.{ℕ, suc, _+_, _-_, _<_, _≤_}
 use native.Mathlib.Omega.{arith}
 use lib.Dec.{eqb}
 use lib.ListN.{length, getD, set, take, drop}
-use Rattle.std.proofs.shelf.Lists.{take-more}
+use Rattle.std.proofs.shelf.Lists.{take-more, set-split}
+use Rattle.std.specs.shelf.Lists.{removed}
 use Rattle.std.proofs.shelf.Tests.{cases-bool, cases-eq, both-ways, cond-both, and-parts, eqb-true, ne-eqb, eq-eqb}
 use Rattle.std.proofs.shelf.Ways.{tells}
 use Rattle.std.specs.declared.option.Option.{Option}
 use Rattle.std.specs.declared.option.Option.the-variants.{Some, None}
 use Rattle.rules.specs.Sides.{Rule, Lawful}
-use Rattle.books.specs.Lists.{front-of, find, shares-at, sound, put, without, less, reduced, AllSound}
-use Rattle.books.specs.Packing.{blank}
-use Rattle.books.specs.Priority.{all-sound, tally, arrange, arranged, Runs, NoneAhead}
+use Rattle.std.specs.Options.{isSome}
+use Rattle.books.specs.Lists.{front-of, find, stands, shares-at, sound, put, without, less, reduced, AllSound}
+use Rattle.books.specs.Packing.{blank, Place}
+use Rattle.books.specs.Priority.{all-sound, tally, Distinct, arrange, arranged, Runs, NoneAhead}
 use Rattle.books.specs.declared.standing.Standing.{Standing}
+use Rattle.books.proofs.Tallies.{tally-append}
+use Rattle.books.proofs.Spots.{split-at, tally-split}
 use Rattle.books.proofs.Ranks.{put-first, runs-put}
 
 pub arrange-append : (rule : Rule) (xs ys list : List Standing) →
@@ -142,21 +146,21 @@ without-put-other n rule law o (x ∷ xs) d r =
     cond-both (rule .ahead (o .price) (x .price)) (o ∷ x ∷ xs) (x ∷ put rule o xs)
     (λ l. without n l ≡ put rule o (without n (x ∷ xs)))
     (λ h.
-      ap (λ b. cond b (x ∷ xs) (o ∷ without n (x ∷ xs))) d ∙
-      cond-both (eqb (x .number) n) xs (x ∷ without n xs) (λ l. o ∷ l ≡ put rule o l)
-      (λ _. sym (put-first rule law o (x .price) h xs (r .0)))
-      (λ _. sym (ap (λ b. cond b (o ∷ x ∷ without n xs) (x ∷ put rule o (without n xs))) h)))
+    ap (λ b. cond b (x ∷ xs) (o ∷ without n (x ∷ xs))) d ∙
+    cond-both (eqb (x .number) n) xs (x ∷ without n xs) (λ l. o ∷ l ≡ put rule o l)
+    (λ _. sym (put-first rule law o (x .price) h xs (r .0)))
+    (λ _. sym (ap (λ b. cond b (o ∷ x ∷ without n xs) (x ∷ put rule o (without n xs))) h)))
     (λ h.
-      ⊎-elim
-      (λ (e : eqb (x .number) n ≡ true).
-        ap (λ b. cond b (put rule o xs) (x ∷ without n (put rule o xs))) e ∙
-        sym (ap (λ b. put rule o (cond b xs (x ∷ without n xs))) e))
-      (λ (e : eqb (x .number) n ≡ false).
-        ap (λ b. cond b (put rule o xs) (x ∷ without n (put rule o xs))) e ∙
-        ap (λ l. x ∷ l) (without-put-other n rule law o xs d (r .1)) ∙
-        sym (ap (λ b. cond b (o ∷ x ∷ without n xs) (x ∷ put rule o (without n xs))) h) ∙
-        sym (ap (λ b. put rule o (cond b xs (x ∷ without n xs))) e))
-      (cases-bool (eqb (x .number) n)))
+    ⊎-elim
+    (λ (e : eqb (x .number) n ≡ true).
+    ap (λ b. cond b (put rule o xs) (x ∷ without n (put rule o xs))) e ∙
+    sym (ap (λ b. put rule o (cond b xs (x ∷ without n xs))) e))
+    (λ (e : eqb (x .number) n ≡ false).
+    ap (λ b. cond b (put rule o xs) (x ∷ without n (put rule o xs))) e ∙
+    ap (λ l. x ∷ l) (without-put-other n rule law o xs d (r .1)) ∙
+    sym (ap (λ b. cond b (o ∷ x ∷ without n xs) (x ∷ put rule o (without n xs))) h) ∙
+    sym (ap (λ b. put rule o (cond b xs (x ∷ without n xs))) e))
+    (cases-bool (eqb (x .number) n)))
 
 without-put-same : (rule : Rule) (o : Standing) (xs : List Standing) → tally (o .number) xs ≡ 0 →
     without (o .number) (put rule o xs) ≡ xs
@@ -166,8 +170,8 @@ without-put-same rule o (x ∷ xs) h =
     cond-both (rule .ahead (o .price) (x .price)) (o ∷ x ∷ xs) (x ∷ put rule o xs) (λ l. without (o .number) l ≡ x ∷ xs)
     (λ _. ap (λ b. cond b (x ∷ xs) (o ∷ without (o .number) (x ∷ xs))) (eq-eqb (o .number) (o .number) refl))
     (λ _.
-      ap (λ b. cond b (put rule o xs) (x ∷ without (o .number) (put rule o xs))) (p .0) ∙
-      ap (λ l. x ∷ l) (without-put-same rule o xs (p .1)))
+    ap (λ b. cond b (put rule o xs) (x ∷ without (o .number) (put rule o xs))) (p .0) ∙
+    ap (λ l. x ∷ l) (without-put-same rule o xs (p .1)))
 
 without-arrange-others : (n : ℕ) (rule : Rule) → Lawful rule → (xs list : List Standing) → tally n xs ≡ 0 →
     Runs rule list → without n (arrange rule xs list) ≡ arrange rule xs (without n list)
@@ -177,3 +181,158 @@ without-arrange-others n rule law (x ∷ xs) list h r =
     without-arrange-others n rule law xs (put rule x list) (p .1) (runs-put rule law x list r) ∙
     ap (arrange rule xs) (without-put-other n rule law x list (p .0) r)
 
+-- Fewer shares of one order
+
+abbrev fewer : (n k : ℕ) → Standing → Standing
+fewer n k o = cond (eqb (o .number) n) (reduced o k) o
+
+fewer-price : (n k : ℕ) (o : Standing) → fewer n k o .price ≡ o .price
+fewer-price n k o = cond-both (eqb (o .number) n) (reduced o k) o (λ r. r .price ≡ o .price) (λ _. refl) (λ _. refl)
+
+map-put : (f : Standing → Standing) → ((o : Standing) → f o .price ≡ o .price) → (rule : Rule) (o : Standing) (xs : List Standing) →
+    map f (put rule o xs) ≡ put rule (f o) (map f xs)
+map-put f e rule o [] = refl
+map-put f e rule o (x ∷ xs) =
+    let same : rule .ahead (f o .price) (f x .price) ≡ rule .ahead (o .price) (x .price) =
+    ap (rule .ahead (f o .price)) (e x) ∙ ap (λ p. rule .ahead p (x .price)) (e o) in
+    cond-both (rule .ahead (o .price) (x .price)) (o ∷ x ∷ xs) (x ∷ put rule o xs) (λ l. map f l ≡ put rule (f o) (map f (x ∷ xs)))
+    (λ h. sym (ap (λ b. cond b (f o ∷ f x ∷ map f xs) (f x ∷ put rule (f o) (map f xs))) (same ∙ h)))
+    (λ h.
+    ap (λ l. f x ∷ l) (map-put f e rule o xs) ∙
+    sym (ap (λ b. cond b (f o ∷ f x ∷ map f xs) (f x ∷ put rule (f o) (map f xs))) (same ∙ h)))
+
+map-arrange : (f : Standing → Standing) → ((o : Standing) → f o .price ≡ o .price) → (rule : Rule) (xs list : List Standing) →
+    map f (arrange rule xs list) ≡ arrange rule (map f xs) (map f list)
+map-arrange f e rule [] list = refl
+map-arrange f e rule (x ∷ xs) list =
+    map-arrange f e rule xs (put rule x list) ∙ ap (arrange rule (map f xs)) (map-put f e rule x list)
+
+fewer-others : (n k : ℕ) (xs : List Standing) → tally n xs ≡ 0 → map (fewer n k) xs ≡ xs
+fewer-others n k [] h = refl
+fewer-others n k (x ∷ xs) h =
+    let p = other n x xs h in
+    ap (λ b. cond b (reduced x k) x ∷ map (fewer n k) xs) (p .0) ∙ ap (λ l. x ∷ l) (fewer-others n k xs (p .1))
+
+-- One order among the arrivals, whose number stands once
+
+module _ (rule : Rule) (xs : List Standing) (y : Standing) (ys : List Standing) (alone : tally (y .number) (xs ++ ys) ≡ 0) where
+  in-two : arranged rule (xs ++ y ∷ ys) ≡ arrange rule ys (put rule y (arranged rule xs))
+  in-two = arrange-append rule xs (y ∷ ys) []
+
+  not-earlier : tally (y .number) (arranged rule xs) ≡ 0
+  not-earlier = omega (arith, alone, tally-append (y .number) xs ys, tally-arrange (y .number) rule xs [])
+
+  not-later : tally (y .number) ys ≡ 0
+  not-later = omega (arith, alone, tally-append (y .number) xs ys)
+
+  find-middle : find (y .number) (arranged rule (xs ++ y ∷ ys)) ≡ Some y
+  find-middle =
+      ap (find (y .number)) in-two ∙
+      find-arrange-others (y .number) rule ys (put rule y (arranged rule xs)) not-later ∙
+      find-put-same rule y (arranged rule xs) not-earlier
+
+  without-middle : Lawful rule → without (y .number) (arranged rule (xs ++ y ∷ ys)) ≡ arranged rule (xs ++ ys)
+  without-middle law =
+      ap (without (y .number)) in-two ∙
+      without-arrange-others (y .number) rule law ys (put rule y (arranged rule xs)) not-later
+      (runs-put rule law y (arranged rule xs) (runs-arrange rule law xs [] tt)) ∙
+      ap (arrange rule ys) (without-put-same rule y (arranged rule xs) not-earlier) ∙
+      sym (arrange-append rule xs ys [])
+
+  fewer-middle : (k : ℕ) → map (fewer (y .number) k) (arranged rule (xs ++ y ∷ ys)) ≡ arranged rule (xs ++ reduced y k ∷ ys)
+  fewer-middle k =
+      ap (map (fewer (y .number) k)) in-two ∙
+      map-arrange (fewer (y .number) k) (fewer-price (y .number) k) rule ys (put rule y (arranged rule xs)) ∙
+      ap (λ l. arrange rule l (map (fewer (y .number) k) (put rule y (arranged rule xs))))
+      (fewer-others (y .number) k ys not-later) ∙
+      ap (arrange rule ys) (map-put (fewer (y .number) k) (fewer-price (y .number) k) rule y (arranged rule xs)) ∙
+      ap (λ l. arrange rule ys (put rule (fewer (y .number) k y) l))
+      (fewer-others (y .number) k (arranged rule xs) not-earlier) ∙
+      ap (λ b. arrange rule ys (put rule (cond b (reduced y k) y) (arranged rule xs))) (eq-eqb (y .number) (y .number) refl) ∙
+      sym (arrange-append rule xs (reduced y k ∷ ys) [])
+
+-- The order at a place
+
+module _ (rule : Rule) (os : List Standing) (i : ℕ) (l : i < length os) (d : Distinct os) where
+  alone-at : tally (getD os i blank .number) (take i os ++ drop (suc i) os) ≡ 0
+  alone-at =
+      let y = getD os i blank in
+      let e = tally-split (y .number) os i l in
+      let q = eq-eqb (y .number) (y .number) refl in
+      let m = d (y .number) in
+      grind (arith, tells)
+
+  pub find-at : find (getD os i blank .number) (arranged rule os) ≡ Some (getD os i blank)
+  find-at =
+      ap (λ ws. find (getD os i blank .number) (arranged rule ws)) (split-at os i l) ∙
+      find-middle rule (take i os) (getD os i blank) (drop (suc i) os) alone-at
+
+  pub without-at : Lawful rule → arranged rule (removed os i) ≡ without (getD os i blank .number) (arranged rule os)
+  without-at law =
+      sym (without-middle rule (take i os) (getD os i blank) (drop (suc i) os) alone-at law) ∙
+      ap (λ ws. without (getD os i blank .number) (arranged rule ws)) (sym (split-at os i l))
+
+  fewer-at : (k : ℕ) → arranged rule (set os i (reduced (getD os i blank) k)) ≡ map (fewer (getD os i blank .number) k) (arranged rule os)
+  fewer-at k =
+      ap (arranged rule) (set-split os i (reduced (getD os i blank) k) l) ∙
+      sym (fewer-middle rule (take i os) (getD os i blank) (drop (suc i) os) alone-at k) ∙
+      ap (λ ws. map (fewer (getD os i blank .number) k) (arranged rule ws)) (sym (split-at os i l))
+
+-- The list when its front has fewer shares
+
+without-front : (list : List Standing) (y : Standing) (k : ℕ) → front-of list ≡ Some y → k ≡ y .shares →
+    without (y .number) list ≡ less list k
+without-front [] y k f e = let z : _≡_ {A = ℕ} 0 1 = cc in absurd (omega arith)
+without-front (x ∷ xs) y k f e = let q : x ≡ y = cc in grind (arith, tells)
+
+fewer-front : (list : List Standing) (y : Standing) (k : ℕ) → tally (y .number) list ≤ 1 → front-of list ≡ Some y →
+    (k ≡ y .shares → ⊥) → map (fewer (y .number) k) list ≡ less list k
+fewer-front [] y k t f e = let z : _≡_ {A = ℕ} 0 1 = cc in absurd (omega arith)
+fewer-front (x ∷ xs) y k t f e =
+    let q : x ≡ y = cc in
+    let same : eqb (x .number) (y .number) ≡ true = eq-eqb (x .number) (y .number) (ap (λ o. o .number) q) in
+    let rest : tally (y .number) xs ≡ 0 = grind (arith, tells) in
+    let left : eqb k (x .shares) ≡ false = ne-eqb k (x .shares) (λ p. e (p ∙ ap (λ o. o .shares) q)) in
+    ap (λ b. cond b (reduced x k) x ∷ map (fewer (y .number) k) xs) same ∙
+    ap (λ ws. reduced x k ∷ ws) (fewer-others (y .number) k xs rest) ∙
+    sym (ap (λ b. cond b xs (reduced x k ∷ xs)) left)
+
+module _ (rule : Rule) (os : List Standing) (i : ℕ) (l : i < length os) (d : Distinct os)
+    (front : front-of (arranged rule os) ≡ Some (getD os i blank)) where
+  pub gone-at : Lawful rule → (k : ℕ) → k ≡ getD os i blank .shares → arranged rule (removed os i) ≡ less (arranged rule os) k
+  gone-at law k e = without-at rule os i l d law ∙ without-front (arranged rule os) (getD os i blank) k front e
+
+  pub less-at : (k : ℕ) → (k ≡ getD os i blank .shares → ⊥) →
+      arranged rule (set os i (reduced (getD os i blank) k)) ≡ less (arranged rule os) k
+  less-at k e =
+      fewer-at rule os i l d k ∙
+      fewer-front (arranged rule os) (getD os i blank) k
+      (omega (arith, tally-arrange (getD os i blank .number) rule os [], d (getD os i blank .number))) front e
+
+-- What a place says of the arranged list
+
+pub absent-arranged : (rule : Rule) (n : ℕ) (os : List Standing) → tally n os ≡ 0 → find n (arranged rule os) ≡ None
+absent-arranged rule n os h = find-none n (arranged rule os) (omega (arith, h, tally-arrange n rule os []))
+
+pub find-place : (rule : Rule) (n : ℕ) (os : List Standing) → Distinct os → (i : ℕ) → Place n os (Some i) →
+    find n (arranged rule os) ≡ Some (getD os i blank)
+find-place rule n os d i p = ap (λ m. find m (arranged rule os)) (sym (p .1)) ∙ find-at rule os i (p .0) d
+
+pub stands-place : (rule : Rule) (n : ℕ) (os : List Standing) → Distinct os → (r : Option ℕ) → Place n os r →
+    stands n (arranged rule os) ≡ isSome r
+stands-place rule n os d None p = ap isSome (absent-arranged rule n os p)
+stands-place rule n os d (Some i) p = ap isSome (find-place rule n os d i p)
+
+pub arranged-push : (rule : Rule) (os : List Standing) (o : Standing) → arranged rule (os ++ o ∷ []) ≡ put rule o (arranged rule os)
+arranged-push rule os o = arrange-append rule os (o ∷ []) []
+
+pub length-arranged : (rule : Rule) (os : List Standing) → length (arranged rule os) ≡ length os
+length-arranged rule os = omega (arith, length-arrange rule os [])
+
+-- whether an order can be added, from the two tests of it
+pub fit-arranged : (rule : Rule) (os : List Standing) → Distinct os → (o : Standing) (r : Option ℕ) → Place (o .number) os r →
+    (is there : Bool) → is ≡ sound o → there ≡ isSome r →
+    (sound o && not (stands (o .number) (arranged rule os))) ≡ (is && not there)
+fit-arranged rule os d o r p is there e f =
+    let s = stands-place rule (o .number) os d r p in
+    cc

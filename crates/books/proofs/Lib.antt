@@ -3,3 +3,4 @@ mod Sounds
 mod Spots
 mod Ranks
 mod Arranging
+mod Outcomes

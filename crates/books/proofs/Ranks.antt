@@ -30,11 +30,11 @@ pub before : (rule : Rule) → Lawful rule → (p z x : ℕ) → rule .ahead z x
 before rule law p z x n h =
     ⊎-elim (λ t. t)
     (λ (f : rule .ahead p z ≡ false).
-      ⊎-elim (λ (e : p ≡ z). absurd (both-ways (rule .ahead z x) n (ap (λ q. rule .ahead q x) (sym e) ∙ h)))
-      (λ (d : p ≡ z → ⊥).
-        let b : rule .ahead z p ≡ true = not-false (rule .ahead z p) (sym (law .different p z d) ∙ f) in
-        absurd (both-ways (rule .ahead z x) n (law .carries z p x b h)))
-      (cases-eq p z))
+    ⊎-elim (λ (e : p ≡ z). absurd (both-ways (rule .ahead z x) n (ap (λ q. rule .ahead q x) (sym e) ∙ h)))
+    (λ (d : p ≡ z → ⊥).
+    let b : rule .ahead z p ≡ true = not-false (rule .ahead z p) (sym (law .different p z d) ∙ f) in
+    absurd (both-ways (rule .ahead z x) n (law .carries z p x b h)))
+    (cases-eq p z))
     (cases-bool (rule .ahead p z))
 
 pub none-ahead-of-earlier : (rule : Rule) → Lawful rule → (p x : ℕ) → rule .ahead p x ≡ true → (os : List Standing) →
@@ -54,9 +54,13 @@ pub runs-put : (rule : Rule) → Lawful rule → (o : Standing) (xs : List Stand
 runs-put rule law o [] r = (tt, tt)
 runs-put rule law o (x ∷ xs) r =
     cond-both (rule .ahead (o .price) (x .price)) (o ∷ x ∷ xs) (x ∷ put rule o xs) (Runs rule)
-    (λ h.
-      ((not-both rule law (o .price) (x .price) h,
-      none-ahead-of-earlier rule law (o .price) (x .price) h xs (r .0)), r))
+    (λ h. (
+      (
+        not-both rule law (o .price) (x .price) h,
+        none-ahead-of-earlier rule law (o .price) (x .price) h xs (r .0),
+      ),
+      r,
+    ))
     (λ h. (none-ahead-put rule (x .price) o xs h (r .0), runs-put rule law o xs (r .1)))
 
 -- what comes ahead of a price goes to the front of what is not ahead of it

@@ -74,9 +74,9 @@ pub distinct-set : (xs : List Standing) (i : ℕ) (y : Standing) → i < length 
     Distinct xs → Distinct (set xs i y)
 distinct-set xs i y l e h n =
     let t : tally n (set xs i y) ≡ cond (eqb (y .number) n) 1 0 + tally n (removed xs i) =
-        ap (tally n) (set-split xs i y l) ∙ tally-middle n (take i xs) y (drop (suc i) xs) in
+    ap (tally n) (set-split xs i y l) ∙ tally-middle n (take i xs) y (drop (suc i) xs) in
     let u : cond {A = ℕ} (eqb (y .number) n) 1 0 ≡ cond {A = ℕ} (eqb (getD xs i blank .number) n) 1 0 =
-        ap (λ (k : ℕ). cond {A = ℕ} (eqb k n) 1 0) e in
+    ap (λ (k : ℕ). cond {A = ℕ} (eqb k n) 1 0) e in
     omega (arith, tally-split n xs i l, h n)
 
 pub all-sound-push : (xs : List Standing) (y : Standing) → all-sound xs ≡ true → sound y ≡ true →
@@ -95,3 +95,6 @@ pub shares-most : (xs : List Standing) (n i : ℕ) → n ≤ length xs → i < n
 shares-most xs n i m l h =
     let s = all-sound-split (take n xs) i (omega (arith, length-take-le n xs m)) h .0 in
     omega (arith, ap (λ o. o .shares) (getD-take n xs i blank l), most-from-sound (getD (take n xs) i blank) s)
+
+pub held-most : (xs : List Standing) (n : ℕ) → length xs ≡ 32 → n ≤ 32 → length (take n xs) ≤ 32
+held-most xs n s w = omega (arith, length-take-le n xs (omega arith))

@@ -8,8 +8,6 @@ use crate::standing::Standing;
 
 mod calls;
 
-pub const PLACES: usize = 32;
-
 #[derive(Drop)]
 pub struct Arrivals {
     spots: [Standing; 32],

@@ -11,12 +11,17 @@ pub ghost-self : need.ghost-self
 ghost-self c =
     let xs = held (c .args .self .now) in
     let room : c .args .self .now .count < length (c .args .self .now .spots) =
-        omega (arith, length-take-le (c .args .self .now .count) (c .args .self .now .spots) (omega arith)) in
-    let e = take-more-set (c .args .self .now .spots) (c .args .self .now .count) (c .args .order) room in
-    (simp length-set (omega arith),
-    (omega (arith, room),
-    (rw e (all-sound-push xs (c .args .order) (c .args .self .now .sound) (c .pre .sound)),
-    (λ n. rw e (distinct-push xs (c .args .order) (c .args .self .now .distinct) (c .pre .fresh) n), tt))))
+    omega (arith, length-take-le (c .args .self .now .count) (c .args .self .now .spots) (omega arith)) in
+    let e = take-more-set (c .args .self .now .spots) (c .args .self .now .count) (c .args .order) room in (
+      simp length-set (omega arith),
+      (
+        omega (arith, room),
+        (
+          rw e (all-sound-push xs (c .args .order) (c .args .self .now .sound) (c .pre .sound)),
+          (λ n. rw e (distinct-push xs (c .args .order) (c .args .self .now .distinct) (c .pre .fresh) n), tt),
+        ),
+      ),
+    )
 
 pub returns : need.returns
 returns c =

@@ -18,11 +18,16 @@ ghost-self c =
     let i = c .args .index in
     let e = reduced-at (v .spots) i (v .count) (c .args .shares) (omega arith) (c .pre .within) in
     let o = getD (held v) i blank in
-    let s = sound-reduced o (c .args .shares) (c .pre .left) (all-sound-split (held v) i (c .pre .within) (v .sound) .0) in
-    (simp length-set (omega arith),
-    (omega arith,
-    (rw e (all-sound-set (held v) i (reduced o (c .args .shares)) (c .pre .within) (v .sound) s),
-    (λ n. rw e (distinct-set (held v) i (reduced o (c .args .shares)) (c .pre .within) refl (v .distinct) n), tt))))
+    let s = sound-reduced o (c .args .shares) (c .pre .left) (all-sound-split (held v) i (c .pre .within) (v .sound) .0) in (
+      simp length-set (omega arith),
+      (
+        omega arith,
+        (
+          rw e (all-sound-set (held v) i (reduced o (c .args .shares)) (c .pre .within) (v .sound) s),
+          (λ n. rw e (distinct-set (held v) i (reduced o (c .args .shares)) (c .pre .within) refl (v .distinct) n), tt),
+        ),
+      ),
+    )
 
 pub returns : need.returns
 returns c =
