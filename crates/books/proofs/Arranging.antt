@@ -17,11 +17,11 @@ use Rattle.rules.specs.Sides.{Rule, Lawful}
 use Rattle.std.specs.Options.{isSome}
 use Rattle.books.specs.Lists.{front-of, find, stands, shares-at, sound, put, without, less, reduced, AllSound}
 use Rattle.books.specs.Packing.{blank, Place}
-use Rattle.books.specs.Priority.{all-sound, tally, Distinct, arrange, arranged, Runs, NoneAhead}
+use Rattle.books.specs.Priority.{all-sound, tally, Distinct, arrange, arranged}
 use Rattle.books.specs.declared.standing.Standing.{Standing}
 use Rattle.books.proofs.Tallies.{tally-append}
 use Rattle.books.proofs.Spots.{split-at, tally-split}
-use Rattle.books.proofs.Ranks.{put-first, runs-put}
+use Rattle.books.proofs.Ranks.{Runs, put-first, runs-put}
 
 pub arrange-append : (rule : Rule) (xs ys list : List Standing) →
     arrange rule (xs ++ ys) list ≡ arrange rule ys (arrange rule xs list)

@@ -4,3 +4,4 @@ mod Spots
 mod Ranks
 mod Arranging
 mod Outcomes
+mod Past

@@ -10,8 +10,16 @@ use Rattle.std.proofs.shelf.Tests.{cases-bool, cases-eq, both-ways, cond-both, 
 use Rattle.std.proofs.shelf.Ways.{tells}
 use Rattle.rules.specs.Sides.{Rule, Lawful}
 use Rattle.books.specs.Lists.{put, without, less, reduced}
-use Rattle.books.specs.Priority.{NoneAhead, Runs}
+use Rattle.books.specs.Histories.{Each, Pairs}
 use Rattle.books.specs.declared.standing.Standing.{Standing}
+
+-- no order's price comes ahead of this one
+abbrev pub NoneAhead : Rule → (price : ℕ) → List Standing → Type 0
+NoneAhead rule price = Each (λ o. rule .ahead (o .price) price ≡ false)
+
+-- no order's price comes ahead of that of an order before it
+abbrev pub Runs : Rule → List Standing → Type 0
+Runs rule = Pairs (λ x y. rule .ahead (y .price) (x .price) ≡ false)
 
 -- of two prices one at most comes first
 pub not-both : (rule : Rule) → Lawful rule → (p q : ℕ) → rule .ahead p q ≡ true → rule .ahead q p ≡ false

@@ -1,3 +1,4 @@
 pub mod Lists
 pub mod Priority
 pub mod Packing
+pub mod Histories

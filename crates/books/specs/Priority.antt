@@ -28,13 +28,3 @@ arrange rule (o ∷ os) list = arrange rule os (put rule o list)
 
 abbrev pub arranged : Rule → (arrivals : List Standing) → List Standing
 arranged rule arrivals = arrange rule arrivals []
-
--- none of the orders has a price that comes ahead of this one
-abbrev pub NoneAhead : Rule → (price : ℕ) → List Standing → Type 0
-NoneAhead rule price [] = Unit {0}
-NoneAhead rule price (o ∷ os) = (rule .ahead (o .price) price ≡ false) × NoneAhead rule price os
-
--- no order's price comes ahead of that of any order before it
-abbrev pub Runs : Rule → List Standing → Type 0
-Runs rule [] = Unit {0}
-Runs rule (o ∷ os) = NoneAhead rule (o .price) os × Runs rule os
