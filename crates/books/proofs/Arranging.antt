@@ -1,15 +1,15 @@
 -- Orders by arrival, arranged by priority: what each question and change makes of them.
-use mathlib.Core.Path.{_≡_, refl, sym, ap, subst, _∙_}
+use mathlib.Core.Path.{_≡_, refl, sym, ap, _∙_}
 use mathlib.Core.Bool.{Bool, true, false, not, cond, _&&_}
 use mathlib.Core.List.{List, [], _∷_, _++_, map}
 use mathlib.Core.Logic.{⊎-elim}
-use Prim.Native.Nat.{ℕ, suc, _+_, _-_, _<_, _≤_}
+use Prim.Native.Nat.{ℕ, suc, _+_, _<_, _≤_}
 use native.Mathlib.Omega.{arith}
 use lib.Dec.{eqb}
 use lib.ListN.{length, getD, set, take, drop}
 use Rattle.std.proofs.shelf.Lists.{take-more, set-split}
 use Rattle.std.specs.shelf.Lists.{removed}
-use Rattle.std.proofs.shelf.Tests.{cases-bool, cases-eq, both-ways, cond-both, and-parts, eqb-true, ne-eqb, eq-eqb}
+use Rattle.std.proofs.shelf.Tests.{cases-bool, cond-both, and-parts, ne-eqb, eq-eqb}
 use Rattle.std.proofs.shelf.Ways.{tells}
 use Rattle.std.specs.declared.option.Option.{Option}
 use Rattle.std.specs.declared.option.Option.the-variants.{Some, None}
@@ -17,7 +17,7 @@ use Rattle.rules.specs.Sides.{Rule, Lawful}
 use Rattle.std.specs.Options.{isSome}
 use Rattle.books.specs.Lists.{front-of, find, stands, shares-at, sound, put, without, less, reduced, AllSound}
 use Rattle.books.specs.Packing.{blank, Place}
-use Rattle.books.specs.Priority.{all-sound, tally, Distinct, arrange, arranged}
+use Rattle.books.specs.Arranging.{all-sound, tally, Distinct, arrange, arranged}
 use Rattle.books.specs.declared.standing.Standing.{Standing}
 use Rattle.books.proofs.Tallies.{tally-append}
 use Rattle.books.proofs.Spots.{split-at, tally-split}
@@ -65,10 +65,6 @@ pub shares-arrange : (price : ℕ) (rule : Rule) (xs list : List Standing) →
     shares-at price (arrange rule xs list) ≡ shares-at price xs + shares-at price list
 shares-arrange price =
     sum-arrange (shares-at price) (λ o. cond (eqb (o .price) price) (o .shares) 0) (λ _ _. refl) refl
-
-pub tally-put : (n : ℕ) (rule : Rule) (o : Standing) (xs : List Standing) →
-    tally n (put rule o xs) ≡ cond (eqb (o .number) n) 1 0 + tally n xs
-tally-put n = sum-put (tally n) (λ o. cond (eqb (o .number) n) 1 0) (λ _ _. refl)
 
 pub tally-arrange : (n : ℕ) (rule : Rule) (xs list : List Standing) →
     tally n (arrange rule xs list) ≡ tally n xs + tally n list

@@ -1,19 +1,18 @@
 -- What a change answers and leaves, from what its checks said.
-use mathlib.Core.Path.{_≡_, refl, sym, ap, _∙_}
-use mathlib.Core.Bool.{Bool, true, false, not, cond, _&&_}
+use mathlib.Core.Path.{_≡_, refl, ap, _∙_}
+use mathlib.Core.Bool.{Bool, true, false, not, _&&_}
 use mathlib.Core.List.{List, [], _∷_}
-use Prim.Native.Nat.{ℕ, _≤_, _<_}
+use Prim.Native.Nat.{ℕ, _≤_}
 use native.Mathlib.Omega.{arith}
 use lib.Dec.{leb, ltb}
 use lib.ListN.{length}
 use Rattle.std.proofs.shelf.Tests.{and-from, le-leb}
-use Rattle.std.proofs.shelf.Ways.{tells}
 use Rattle.std.specs.declared.option.Option.the-variants.{Some, None}
 use Rattle.std.specs.declared.result.Result.the-variants.{Ok, Err}
 use Rattle.rules.specs.Refusals.{check}
 use Rattle.rules.specs.Sides.{Rule}
 use Rattle.rules.specs.declared.refusal.Refusal.the-variants.{BadOrder, BookFull, BadTake}
-use Rattle.books.specs.Lists.{Outcome, unless, front-of, find, stands, sound, put, added, less, taken, without, removed, removed-found}
+use Rattle.books.specs.Lists.{unless, front-of, find, stands, sound, put, added, less, taken, without, removed, removed-found}
 use Rattle.books.specs.declared.standing.Standing.{Standing}
 
 module _ (rule : Rule) (places : ℕ) (orders : List Standing) (o : Standing) where

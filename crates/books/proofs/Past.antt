@@ -1,6 +1,6 @@
 -- Every list that began empty runs by priority.
 use mathlib.Core.Path.{_≡_, refl, sym, ap, subst, _∙_}
-use mathlib.Core.Bool.{Bool, true, false, not, cond, _&&_}
+use mathlib.Core.Bool.{true, false, not, cond, _&&_}
 use mathlib.Core.List.{List, [], _∷_}
 use mathlib.Core.Logic.{⊎-elim}
 use Prim.Native.Nat.{ℕ, suc, _≤_, _<_}
@@ -10,18 +10,17 @@ use lib.ListN.{length}
 use Rattle.std.proofs.shelf.Tests.{cases-bool, both-ways, cond-both, and-parts, and-from, and-left, and-right, eqb-false, not-true, eq-eqb, ne-eqb}
 use Rattle.std.specs.Options.{isSome}
 use Rattle.std.specs.Results.{isOk}
-use Rattle.std.specs.declared.option.Option.{Option}
 use Rattle.std.specs.declared.option.Option.the-variants.{Some, None}
 use Rattle.std.specs.declared.result.Result.the-variants.{Ok, Err}
 use Rattle.rules.specs.Refusals.{check}
 use Rattle.rules.specs.Sides.{Rule, Lawful}
 use Rattle.rules.specs.declared.refusal.Refusal.{Refusal}
 use Rattle.rules.specs.declared.refusal.Refusal.the-variants.{BadOrder, BookFull, BadTake}
-use Rattle.books.specs.Histories.{Change, add, take, remove, changed, after, accepts, arrival, Each, Pairs, Before, RunsByPriority}
-use Rattle.books.specs.Lists.{Outcome, unless, find, stands, sound, put, added, add-refusal, less, reduced, taken, without, removed, removed-found}
+use Rattle.books.specs.Histories.{Change, add, take, remove, after, brought, Brings, Each, Pairs, Before, RunsByPriority}
+use Rattle.books.specs.Lists.{Outcome, unless, find, stands, sound, put, added, less, reduced, taken, without, removed, removed-found}
 use Rattle.books.specs.declared.standing.Standing.{Standing}
 use Rattle.books.proofs.Outcomes.{added-unfit, added-full, added-fit}
-use Rattle.books.proofs.Ranks.{not-both, not-before}
+use Rattle.books.proofs.Ranks.{not-before}
 
 -- Lists where P holds of each order, or R of each pair
 
@@ -60,10 +59,10 @@ pairs-without R n (x ∷ xs) h =
 
 -- A new order among others
 
-module _ (rule : Rule) (law : Lawful rule) (came : ℕ → ℕ) (o : Standing) where
+module _ (rule : Rule) (law : Lawful rule) (came : ℕ → List Change) (o : Standing) where
   -- z arrived earlier than o, and has another number
   abbrev Older : Standing → Type 0
-  Older z = (came (z .number) < came (o .number)) × (z .number ≡ o .number → ⊥)
+  Older z = (length (came (z .number)) < length (came (o .number))) × (z .number ≡ o .number → ⊥)
 
   before-new : (z : Standing) → rule .ahead (o .price) (z .price) ≡ false → Older z → Before rule came z o
   before-new z h k = (h, (λ _. k .0), k .1)
@@ -106,28 +105,38 @@ absent n (x ∷ xs) h =
     (eqb-false (x .number) n f, absent n xs (sym (ap (λ b. isSome (cond b (Some x) (find n xs))) f) ∙ h)))
     (cases-bool (eqb (x .number) n))
 
--- What a list keeps: its orders in priority, each arrived at a change that was made
+-- What a list keeps: its orders in priority, each brought by an add that was made
+
+brings-reduced : (past : List Change) (o : Standing) (n : ℕ) → Brings past o → Brings past (reduced o n)
+brings-reduced [] o n b = b
+brings-reduced (add p ∷ earlier) o n b = (b .0, b .1, omega (arith, b .2))
+brings-reduced (take k ∷ earlier) o n b = b
+brings-reduced (remove k ∷ earlier) o n b = b
+
+-- the past of an order's number ends with the add that brought it, and is no longer than the whole
+abbrev Arrived : (came : ℕ → List Change) → (latest : ℕ) → Standing → Type 0
+Arrived came latest o = Brings (came (o .number)) o × (length (came (o .number)) ≤ latest)
 
 module _ (rule : Rule) (law : Lawful rule) (places : ℕ) where
-  abbrev Kept : (came : ℕ → ℕ) → (latest : ℕ) → List Standing → Type 0
-  Kept came latest orders =
-      Pairs (Before rule came) orders × Each (λ o. (1 ≤ came (o .number)) × (came (o .number) ≤ latest)) orders
+  abbrev Kept : (came : ℕ → List Change) → (latest : ℕ) → List Standing → Type 0
+  Kept came latest orders = Pairs (Before rule came) orders × Each (Arrived came latest) orders
 
-  later : (came : ℕ → ℕ) (latest : ℕ) (orders : List Standing) → Kept came latest orders → Kept came (suc latest) orders
+  later : (came : ℕ → List Change) (latest : ℕ) (orders : List Standing) → Kept came latest orders →
+      Kept came (suc latest) orders
   later came latest orders k = (
     k .0,
-    each-map (λ o. (1 ≤ came (o .number)) × (came (o .number) ≤ latest))
-        (λ o. (1 ≤ came (o .number)) × (came (o .number) ≤ suc latest)) (λ o h. (h .0, omega (arith, h .1))) orders (k .1),
+    each-map (Arrived came latest) (Arrived came (suc latest)) (λ o h. (h .0, omega (arith, h .1))) orders (k .1),
   )
 
-  kept-less : (came : ℕ → ℕ) (latest : ℕ) (orders : List Standing) (n : ℕ) → Kept came latest orders →
+  kept-less : (came : ℕ → List Change) (latest : ℕ) (orders : List Standing) (n : ℕ) → Kept came latest orders →
       Kept came latest (less orders n)
   kept-less came latest [] n k = k
   kept-less came latest (o ∷ os) n k =
       cond-both (eqb n (o .shares)) os (reduced o n ∷ os) (Kept came latest)
-      (λ _. (k .0 .1, k .1 .1)) (λ _. k)
+      (λ _. (k .0 .1, k .1 .1))
+      (λ _. (k .0, ((brings-reduced (came (o .number)) o n (k .1 .0 .0), k .1 .0 .1), k .1 .1)))
 
-  kept-taken : (came : ℕ → ℕ) (latest : ℕ) (orders : List Standing) (n : ℕ) → Kept came latest orders →
+  kept-taken : (came : ℕ → List Change) (latest : ℕ) (orders : List Standing) (n : ℕ) → Kept came latest orders →
       Kept came latest (taken orders n .list)
   kept-taken came latest [] n k = k
   kept-taken came latest (o ∷ os) n k =
@@ -137,70 +146,67 @@ module _ (rule : Rule) (law : Lawful rule) (places : ℕ) where
         | false ↦ k
       ]
 
-  kept-removed : (came : ℕ → ℕ) (latest : ℕ) (orders : List Standing) (n : ℕ) → Kept came latest orders →
+  kept-removed : (came : ℕ → List Change) (latest : ℕ) (orders : List Standing) (n : ℕ) → Kept came latest orders →
       Kept came latest (removed n orders .list)
   kept-removed came latest orders n k =
       elim (find n orders) as (λ f. Kept came latest (removed-found f n orders .list)) [
         | None ↦ k
-        | Some o ↦ (
-          pairs-without (Before rule came) n orders (k .0),
-          each-without (λ o. (1 ≤ came (o .number)) × (came (o .number) ≤ latest)) n orders (k .1),
-        )
+        | Some o ↦
+            (pairs-without (Before rule came) n orders (k .0), each-without (Arrived came latest) n orders (k .1))
       ]
 
-  kept-put : (came next : ℕ → ℕ) (latest : ℕ) (orders : List Standing) (o : Standing) → stands (o .number) orders ≡ false →
-      next (o .number) ≡ suc latest → ((n : ℕ) → (n ≡ o .number → ⊥) → next n ≡ came n) → Kept came latest orders →
-      Kept next (suc latest) (put rule o orders)
-  kept-put came next latest orders o s now old k =
-      let others = absent (o .number) orders s in
-      let both =
-      each-both (λ z. z .number ≡ o .number → ⊥) (λ z. (1 ≤ came (z .number)) × (came (z .number) ≤ latest)) orders
-      others (k .1) in (
-        pairs-put rule law next o orders
-            (each-map (λ z. (z .number ≡ o .number → ⊥) × ((1 ≤ came (z .number)) × (came (z .number) ≤ latest)))
-            (Older rule law next o) (λ z h. (omega (arith, now, old (z .number) (h .0), h .1 .1), h .0)) orders both)
-            (pairs-map (λ z. z .number ≡ o .number → ⊥) (Before rule came) (Before rule next)
-            (λ x y p q b. (b .0, (λ e. omega (arith, b .1 e, old (x .number) p, old (y .number) q)), b .2)) orders others (k .0)),
-        each-put (λ z. (1 ≤ next (z .number)) × (next (z .number) ≤ suc latest)) rule o orders
-            (omega (arith, now), omega (arith, now))
-            (each-map (λ z. (z .number ≡ o .number → ⊥) × ((1 ≤ came (z .number)) × (came (z .number) ≤ latest)))
-            (λ z. (1 ≤ next (z .number)) × (next (z .number) ≤ suc latest))
-            (λ z h. (omega (arith, old (z .number) (h .0), h .1 .0), omega (arith, old (z .number) (h .0), h .1 .1))) orders both),
-      )
+  -- where the past of an order's number is the same, so is what it says
+  arrived-same : (came next : ℕ → List Change) (latest : ℕ) (o : Standing) → next (o .number) ≡ came (o .number) →
+      Arrived came latest o → Arrived next (suc latest) o
+  arrived-same came next latest o e h =
+      (subst (λ past. Brings past o) (sym e) (h .0), omega (arith, ap length e, h .1))
 
-  kept-same : (came next : ℕ → ℕ) (latest : ℕ) (orders : List Standing) → ((n : ℕ) → next n ≡ came n) →
-      Kept came latest orders → Kept next (suc latest) orders
-  kept-same came next latest orders old k = (
-    pairs-map (λ _. Unit {0}) (Before rule came) (Before rule next)
-        (λ x y _ _ b. (b .0, (λ e. omega (arith, b .1 e, old (x .number), old (y .number))), b .2)) orders
-        (each-map (λ o. (1 ≤ came (o .number)) × (came (o .number) ≤ latest)) (λ _. Unit {0}) (λ _ _. tt) orders (k .1)) (k .0),
-    each-map (λ o. (1 ≤ came (o .number)) × (came (o .number) ≤ latest))
-        (λ o. (1 ≤ next (o .number)) × (next (o .number) ≤ suc latest))
-        (λ o h. (omega (arith, h .0, old (o .number)), omega (arith, h .1, old (o .number)))) orders (k .1),
-  )
+  before-same : (came next : ℕ → List Change) (x y : Standing) → next (x .number) ≡ came (x .number) →
+      next (y .number) ≡ came (y .number) → Before rule came x y → Before rule next x y
+  before-same came next x y e f b = (b .0, (λ q. omega (arith, b .1 q, ap length e, ap length f)), b .2)
 
-  -- the arrivals where an add gave this outcome
-  abbrev arrivals : (came : ℕ → ℕ) → (latest : ℕ) → Standing → Outcome (Unit {0}) → ℕ → ℕ
-  arrivals came latest o outcome n = cond (eqb (o .number) n && isOk (outcome .answer)) (suc latest) (came n)
+  module _ (came : ℕ → List Change) (earlier : List Change) (orders : List Standing) (o : Standing)
+      (k : Kept came (length earlier) orders) where
+    -- the past of each number where the add of o gave this outcome
+    abbrev next : Outcome (Unit {0}) → ℕ → List Change
+    next outcome n = cond (eqb (o .number) n && isOk (outcome .answer)) (add o ∷ earlier) (came n)
 
-  module _ (came : ℕ → ℕ) (latest : ℕ) (orders : List Standing) (o : Standing) (k : Kept came latest orders) where
     abbrev KeptBy : Outcome (Unit {0}) → Type 0
-    KeptBy outcome = Kept (arrivals came latest o outcome) (suc latest) (outcome .list)
+    KeptBy outcome = Kept (next outcome) (suc (length earlier)) (outcome .list)
 
     kept-refused : (e : Refusal) → KeptBy record { answer = Err e; list = orders }
     kept-refused e =
-        kept-same came (arrivals came latest o record { answer = Err e; list = orders }) latest orders
-        (λ n. ap (λ b. cond b (suc latest) (came n)) (and-right (eqb (o .number) n) false refl)) k
+        let past = next record { answer = Err e; list = orders } in
+        let same : (n : ℕ) → past n ≡ came n =
+        λ n. ap (λ b. cond b (add o ∷ earlier) (came n)) (and-right (eqb (o .number) n) false refl) in (
+          pairs-map (Arrived came (length earlier)) (Before rule came) (Before rule past)
+              (λ x y _ _ b. before-same came past x y (same (x .number)) (same (y .number)) b) orders (k .1) (k .0),
+          each-map (Arrived came (length earlier)) (Arrived past (suc (length earlier)))
+              (λ x h. arrived-same came past (length earlier) x (same (x .number)) h) orders (k .1),
+        )
 
     kept-accepted : stands (o .number) orders ≡ false → KeptBy record { answer = Ok tt; list = put rule o orders }
     kept-accepted s =
-        kept-put came (arrivals came latest o record { answer = Ok tt; list = put rule o orders }) latest orders o s
-        (ap (λ b. cond b (suc latest) (came (o .number)))
-        (and-from (eqb (o .number) (o .number)) true (eq-eqb (o .number) (o .number) refl) refl))
-        (λ n d.
-        ap (λ b. cond b (suc latest) (came n))
-        (and-left (eqb (o .number) n) true (ne-eqb (o .number) n (λ e. d (sym e)))))
-        k
+        let past = next record { answer = Ok tt; list = put rule o orders } in
+        let now : past (o .number) ≡ add o ∷ earlier =
+        ap (λ b. cond b (add o ∷ earlier) (came (o .number)))
+        (and-from (eqb (o .number) (o .number)) true (eq-eqb (o .number) (o .number) refl) refl) in
+        let same : (n : ℕ) → (n ≡ o .number → ⊥) → past n ≡ came n =
+        λ n d.
+        ap (λ b. cond b (add o ∷ earlier) (came n))
+        (and-left (eqb (o .number) n) true (ne-eqb (o .number) n (λ e. d (sym e)))) in
+        let others = absent (o .number) orders s in
+        let both = each-both (λ z. z .number ≡ o .number → ⊥) (Arrived came (length earlier)) orders others (k .1) in (
+          pairs-put rule law past o orders
+              (each-map (λ z. (z .number ≡ o .number → ⊥) × Arrived came (length earlier) z) (Older rule law past o)
+              (λ z h. (omega (arith, ap length now, ap length (same (z .number) (h .0)), h .1 .1), h .0)) orders both)
+              (pairs-map (λ z. z .number ≡ o .number → ⊥) (Before rule came) (Before rule past)
+              (λ x y p q b. before-same came past x y (same (x .number) p) (same (y .number) q) b) orders others (k .0)),
+          each-put (Arrived past (suc (length earlier))) rule o orders
+              (subst (λ l. Brings l o) (sym now) (refl, refl, omega arith), omega (arith, ap length now))
+              (each-map (λ z. (z .number ≡ o .number → ⊥) × Arrived came (length earlier) z) (Arrived past (suc (length earlier)))
+              (λ z h. arrived-same came past (length earlier) z (same (z .number) (h .0)) (h .1)) orders both),
+        )
 
     kept-added : KeptBy (added rule places orders o)
     kept-added =
@@ -218,22 +224,22 @@ module _ (rule : Rule) (law : Lawful rule) (places : ℕ) where
         subst KeptBy (sym (added-unfit rule places orders o unfit)) (kept-refused BadOrder))
         (cases-bool (sound o && not (stands (o .number) orders)))
 
-  kept : (history : List Change) → Kept (arrival rule places history) (length history) (after rule places history)
+  kept : (history : List Change) → Kept (brought rule places history) (length history) (after rule places history)
   kept [] = (tt, tt)
   kept (add o ∷ earlier) =
-      kept-added (arrival rule places earlier) (length earlier) (after rule places earlier) o (kept earlier)
+      kept-added (brought rule places earlier) earlier (after rule places earlier) o (kept earlier)
   kept (take n ∷ earlier) =
-      later (arrival rule places earlier) (length earlier) (taken (after rule places earlier) n .list)
-      (kept-taken (arrival rule places earlier) (length earlier) (after rule places earlier) n (kept earlier))
+      later (brought rule places earlier) (length earlier) (taken (after rule places earlier) n .list)
+      (kept-taken (brought rule places earlier) (length earlier) (after rule places earlier) n (kept earlier))
   kept (remove n ∷ earlier) =
-      later (arrival rule places earlier) (length earlier) (removed n (after rule places earlier) .list)
-      (kept-removed (arrival rule places earlier) (length earlier) (after rule places earlier) n (kept earlier))
+      later (brought rule places earlier) (length earlier) (removed n (after rule places earlier) .list)
+      (kept-removed (brought rule places earlier) (length earlier) (after rule places earlier) n (kept earlier))
 
 pub runs-by-priority : (rule : Rule) → Lawful rule → RunsByPriority rule
 runs-by-priority rule law places history =
-    let came = arrival rule places history in
+    let came = brought rule places history in
     let k = kept rule law places history in (
       k .0,
-      each-map (λ o. (1 ≤ came (o .number)) × (came (o .number) ≤ length history)) (λ o. 1 ≤ came (o .number)) (λ o h. h .0)
+      each-map (Arrived came (length history)) (λ o. Brings (came (o .number)) o) (λ o h. h .0)
           (after rule places history) (k .1),
     )

@@ -1,15 +1,12 @@
 -- What a lawful side says of three prices, and how a list keeps running by it.
-use mathlib.Core.Path.{_≡_, refl, sym, ap, subst, _∙_}
-use mathlib.Core.Bool.{Bool, true, false, not, cond}
+use mathlib.Core.Path.{_≡_, refl, sym, ap, _∙_}
+use mathlib.Core.Bool.{true, false, not, cond}
 use mathlib.Core.List.{List, [], _∷_}
 use mathlib.Core.Logic.{⊎-elim}
-use Prim.Native.Nat.{ℕ, _+_, _<_, _≤_}
-use native.Mathlib.Omega.{arith}
-use lib.Dec.{eqb}
+use Prim.Native.Nat.{ℕ}
 use Rattle.std.proofs.shelf.Tests.{cases-bool, cases-eq, both-ways, cond-both, not-false}
-use Rattle.std.proofs.shelf.Ways.{tells}
 use Rattle.rules.specs.Sides.{Rule, Lawful}
-use Rattle.books.specs.Lists.{put, without, less, reduced}
+use Rattle.books.specs.Lists.{put}
 use Rattle.books.specs.Histories.{Each, Pairs}
 use Rattle.books.specs.declared.standing.Standing.{Standing}
 

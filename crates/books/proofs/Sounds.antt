@@ -1,14 +1,12 @@
 -- Lists of sound orders.
-use mathlib.Core.Path.{_≡_, refl, sym, ap, _∙_}
-use mathlib.Core.Bool.{Bool, true, false, cond, _&&_}
+use mathlib.Core.Path.{_≡_, refl}
+use mathlib.Core.Bool.{true, _&&_}
 use mathlib.Core.List.{List, [], _∷_, _++_}
-use Prim.Native.Nat.{ℕ, _-_, _<_, _≤_}
+use Prim.Native.Nat.{ℕ, _<_, _≤_}
 use native.Mathlib.Omega.{arith}
-use lib.Dec.{eqb, leb}
-use Rattle.std.proofs.shelf.Tests.{and-parts, and-from, leb-true, le-leb}
 use Rattle.std.proofs.shelf.Ways.{tells}
-use Rattle.books.specs.Lists.{sound, reduced, AllSound}
-use Rattle.books.specs.Priority.{all-sound}
+use Rattle.books.specs.Lists.{sound, reduced}
+use Rattle.books.specs.Arranging.{all-sound}
 use Rattle.books.specs.declared.standing.Standing.{Standing}
 
 pub all-sound-append : (xs ys : List Standing) → all-sound (xs ++ ys) ≡ (all-sound xs && all-sound ys)
@@ -21,11 +19,6 @@ all-sound-middle xs y ys =
     let e = all-sound-append xs (y ∷ ys) in
     let f = all-sound-append xs ys in
     grind (arith, tells)
-
-pub each-sound : (xs : List Standing) → all-sound xs ≡ true → AllSound xs
-each-sound [] h = tt
-each-sound (x ∷ xs) h =
-    let p = and-parts (sound x) (all-sound xs) h in (p .0, each-sound xs (p .1))
 
 pub sound-reduced : (o : Standing) (n : ℕ) → n < o .shares → sound o ≡ true → sound (reduced o n) ≡ true
 sound-reduced o n l h = grind (arith, tells)

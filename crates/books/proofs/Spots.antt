@@ -1,6 +1,6 @@
 -- What the first spots hold after a change.
-use mathlib.Core.Path.{_≡_, refl, sym, ap, _∙_}
-use mathlib.Core.Bool.{Bool, true, cond}
+use mathlib.Core.Path.{_≡_, sym, ap, _∙_}
+use mathlib.Core.Bool.{true, cond}
 use mathlib.Core.List.{List, [], _∷_, _++_}
 use Prim.Native.Nat.{ℕ, suc, _+_, _-_, _<_, _≤_}
 use native.Mathlib.Numerals.{add-one}
@@ -15,7 +15,7 @@ use Rattle.std.proofs.shelf.Ways.{tells}
 use Rattle.std.proofs.shelf.Tests.{and-parts, and-from}
 use Rattle.books.specs.Lists.{sound, reduced}
 use Rattle.books.specs.Packing.{blank}
-use Rattle.books.specs.Priority.{all-sound, tally, Distinct}
+use Rattle.books.specs.Arranging.{all-sound, tally, Distinct}
 use Rattle.books.specs.declared.standing.Standing.{Standing}
 use Rattle.books.proofs.Sounds.{all-sound-middle, all-sound-append, most-from-sound}
 use Rattle.books.proofs.Tallies.{tally-middle, tally-append}

@@ -1,14 +1,14 @@
 -- How often a number stands among orders.
-use mathlib.Core.Path.{_≡_, refl, sym, ap, _∙_}
-use mathlib.Core.Bool.{Bool, true, false, cond}
+use mathlib.Core.Path.{_≡_, ap, _∙_}
+use mathlib.Core.Bool.{cond}
 use mathlib.Core.List.{List, [], _∷_, _++_}
-use Prim.Native.Nat.{ℕ, _+_, _<_, _≤_}
+use Prim.Native.Nat.{ℕ, _+_, _<_}
 use native.Mathlib.Omega.{arith}
 use lib.Dec.{eqb}
 use lib.ListN.{length, getD, take}
 use Rattle.std.proofs.shelf.Lists.{take-more}
 use Rattle.books.specs.Packing.{blank}
-use Rattle.books.specs.Priority.{tally, Distinct}
+use Rattle.books.specs.Arranging.{tally}
 use Rattle.books.specs.declared.standing.Standing.{Standing}
 
 pub tally-append : (n : ℕ) (xs ys : List Standing) → tally n (xs ++ ys) ≡ tally n xs + tally n ys

@@ -1,4 +1,4 @@
 pub mod Lists
-pub mod Priority
+pub mod Arranging
 pub mod Packing
 pub mod Histories

@@ -7,7 +7,7 @@ use Rattle.std.specs.declared.option.Option.{Option}
 use Rattle.std.specs.declared.option.Option.the-variants.{Some, None}
 use Rattle.rules.specs.Sides.{Rule}
 use Rattle.books.specs.Lists.{front-of}
-use Rattle.books.specs.Priority.{tally, arranged}
+use Rattle.books.specs.Arranging.{tally, arranged}
 use Rattle.books.specs.declared.packed.arrivals.Arrivals.{Arrivals}
 use Rattle.books.specs.declared.standing.Standing.{Standing}
 

@@ -2,7 +2,7 @@
 ghost use mathlib.Core.List.{[]};
 ghost use mathlib.Core.Path.{_≡_};
 ghost use Rattle.books.specs.Packing.{held};
-ghost use Rattle.books.specs.Priority.{arranged};
+ghost use Rattle.books.specs.Arranging.{arranged};
 use crate::book::Book;
 use crate::standing::Standing;
 use rules::refusal::Refusal;
@@ -12,8 +12,7 @@ use std::marker::PhantomData;
 mod arrivals;
 
 use self::arrivals::Arrivals;
-
-const PLACES: usize = 32;
+use self::arrivals::PLACES;
 
 #[derive(Drop)]
 pub struct Packed<S> {

@@ -6,8 +6,9 @@ ghost use lib.ListN.{length, getD, set};
 ghost use Rattle.std.specs.shelf.Lists.{removed};
 ghost use Rattle.books.specs.Lists.{sound, reduced, shares-at};
 ghost use Rattle.books.specs.Packing.{held, blank, Place, Front};
-ghost use Rattle.books.specs.Priority.{tally};
+ghost use Rattle.books.specs.Arranging.{tally};
 use crate::packed::arrivals::Arrivals;
+use crate::packed::arrivals::PLACES;
 use crate::standing::Standing;
 use rules::side::Side;
 
@@ -18,35 +19,35 @@ const BLANK: Standing = Standing {
 };
 
 impl Arrivals {
-    pub fn new() -> Arrivals
+    pub(crate) fn new() -> Arrivals
         ensures { λ r. ⌜ held r ≡ [] ⌝ }
     {
         Arrivals {
-            spots: [BLANK; 32],
+            spots: [BLANK; PLACES],
             count: 0,
         }
     }
 
-    pub fn clear(&mut self)
+    pub(crate) fn clear(&mut self)
         ensures { λ _. ⌜ held (now (self .exit)) ≡ [] ⌝ }
     {
         self.count = 0;
     }
 
-    pub fn count(&self) -> usize
+    pub(crate) fn count(&self) -> usize
         ensures { λ r. ⌜ r ≡ length (held (now (self .entry))) ⌝ }
     {
         self.count
     }
 
-    pub fn at(&self, index: usize) -> Standing
+    pub(crate) fn at(&self, index: usize) -> Standing
         requires { ⌜ index < length (held (now self)) ⌝ }
         ensures { λ r. ⌜ r ≡ getD (held (now (self .entry))) index blank ⌝ }
     {
         self.spots[index]
     }
 
-    pub fn index_of(&self, number: u32) -> Option<usize>
+    pub(crate) fn index_of(&self, number: u32) -> Option<usize>
         ensures { λ r. ⌜ Place number (held (now (self .entry))) r ⌝ }
     {
         for i in 0..self.count {
@@ -58,7 +59,7 @@ impl Arrivals {
     }
 
     // Of equal prices the earlier arrival stays best.
-    pub fn front_index<S: Side>(&self) -> Option<usize>
+    pub(crate) fn front_index<S: Side>(&self) -> Option<usize>
         ensures { λ r. ⌜ Front (S·Side .rule) (held (now (self .entry))) r ⌝ }
     {
         if self.count == 0 {
@@ -73,7 +74,7 @@ impl Arrivals {
         Some(best)
     }
 
-    pub fn shares_at(&self, price: u32) -> u64
+    pub(crate) fn shares_at(&self, price: u32) -> u64
         ensures { λ r. ⌜ r ≡ shares-at price (held (now (self .entry))) ⌝ }
     {
         let mut sum = 0;
@@ -86,7 +87,7 @@ impl Arrivals {
         sum
     }
 
-    pub fn push(&mut self, order: Standing)
+    pub(crate) fn push(&mut self, order: Standing)
         requires room { ⌜ length (held (now self)) < 32 ⌝ }
         requires sound { ⌜ sound order ≡ true ⌝ }
         requires fresh { ⌜ tally (order .number) (held (now self)) ≡ 0 ⌝ }
@@ -96,7 +97,7 @@ impl Arrivals {
         self.count += 1;
     }
 
-    pub fn reduce(&mut self, index: usize, shares: u32)
+    pub(crate) fn reduce(&mut self, index: usize, shares: u32)
         requires within { ⌜ index < length (held (now self)) ⌝ }
         requires left { ⌜ shares < getD (held (now self)) index blank .shares ⌝ }
         ensures { λ _. ⌜ held (now (self .exit)) ≡ set (held (now (self .entry))) index (reduced (getD (held (now (self .entry))) index blank) shares) ⌝ }
@@ -105,7 +106,7 @@ impl Arrivals {
     }
 
     // Later orders move down by one, and only the last spot is cleared.
-    pub fn close_up(&mut self, index: usize)
+    pub(crate) fn close_up(&mut self, index: usize)
         requires { ⌜ index < length (held (now self)) ⌝ }
         ensures { λ _. ⌜ held (now (self .exit)) ≡ removed (held (now (self .entry))) index ⌝ }
     {

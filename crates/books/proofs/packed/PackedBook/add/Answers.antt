@@ -5,7 +5,7 @@ use lib.ListN.{length}
 use Rattle.std.proofs.shelf.Tests.{and-left, lt-ltb, le-ltb}
 use Rattle.books.specs.Lists.{sound, stands}
 use Rattle.books.specs.Packing.{held}
-use Rattle.books.specs.Priority.{arranged}
+use Rattle.books.specs.Arranging.{arranged}
 use Rattle.books.proofs.Arranging.{fit-arranged, arranged-push, length-arranged}
 use Rattle.books.proofs.Outcomes.{added-unfit, added-full, added-fit}
 use Rattle.books.proofs.Spots.{held-most}

@@ -2,7 +2,7 @@ use mathlib.Core.Path.{refl, sym, ap, _∙_}
 use Rattle.std.specs.declared.option.Option.the-variants.{Some}
 use Rattle.books.specs.Lists.{without, removed-found}
 use Rattle.books.specs.Packing.{held}
-use Rattle.books.specs.Priority.{arranged}
+use Rattle.books.specs.Arranging.{arranged}
 use Rattle.books.proofs.Arranging.{find-place, absent-arranged, without-at}
 use Rattle.books.proofs.Outcomes.{removed-is}
 use Rattle.books.proofs.packed.PackedBook.remove.Needs as need

@@ -2,7 +2,7 @@ use mathlib.Core.Path.{_≡_, refl, sym, ap, _∙_}
 use native.Mathlib.Omega.{arith}
 use lib.ListN.{getD}
 use Rattle.books.specs.Packing.{held, blank}
-use Rattle.books.specs.Priority.{arranged}
+use Rattle.books.specs.Arranging.{arranged}
 use Rattle.books.proofs.Arranging.{gone-at, less-at}
 use Rattle.books.proofs.Outcomes.{taken-fit}
 use Rattle.books.proofs.packed.PackedBook.take.Needs as need

@@ -1,13 +1,12 @@
 use mathlib.Core.Path.{_≡_, ap, _∙_, sym}
 use native.Mathlib.Omega.{arith}
-use borrow.Author.Needs.{needs}
-use lib.ListN.{length, getD, take}
+use lib.ListN.{take}
 use Rattle.std.proofs.shelf.Lists.{length-take-le, getD-take}
 use Rattle.std.proofs.shelf.Ways.{tells}
 use Rattle.std.specs.declared.option.Option.the-variants.{Some}
 use Rattle.books.specs.Lists.{front-of}
-use Rattle.books.specs.Priority.{arranged}
-use Rattle.books.specs.Packing.{blank, held}
+use Rattle.books.specs.Arranging.{arranged}
+use Rattle.books.specs.Packing.{blank}
 use Rattle.books.proofs.Arranging.{front-more}
 use Rattle.books.proofs.packed.arrivals.Arrivals.front_index.Needs as need
 use Rattle.books.proofs.packed.arrivals.Arrivals.front_index.Needs.{then-comes-first, else-comes-first}

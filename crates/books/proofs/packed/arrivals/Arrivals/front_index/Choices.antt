@@ -4,7 +4,7 @@ use lib.ListN.{take, getD}
 use Rattle.std.specs.declared.option.Option.the-variants.{Some}
 use Rattle.books.specs.Lists.{front-of}
 use Rattle.books.specs.Packing.{blank}
-use Rattle.books.specs.Priority.{arranged}
+use Rattle.books.specs.Arranging.{arranged}
 use Rattle.books.proofs.packed.arrivals.Arrivals.front_index.Given as given
 
 abbrev pub Inv-loop-i : given.InvT-loop-i

@@ -1,6 +1,5 @@
--- What it is for a list of orders to run by priority, and orders by arrival arranged so.
-use mathlib.Core.Path.{_≡_}
-use mathlib.Core.Bool.{Bool, true, false, cond, _&&_}
+-- Orders by arrival: what is kept of them, and how they are arranged by priority.
+use mathlib.Core.Bool.{Bool, true, cond, _&&_}
 use mathlib.Core.List.{List, [], _∷_}
 use Prim.Native.Nat.{ℕ, _+_, _≤_}
 use lib.Dec.{eqb}
