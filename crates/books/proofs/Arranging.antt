@@ -3,24 +3,25 @@ use mathlib.Core.Path.{_≡_, refl, sym, ap, _∙_}
 use mathlib.Core.Bool.{Bool, true, false, not, cond, _&&_}
 use mathlib.Core.List.{List, [], _∷_, _++_, map}
 use mathlib.Core.Logic.{⊎-elim}
-use Prim.Native.Nat.{ℕ, suc, _+_, _<_, _≤_}
+use Prim.Native.Nat.{ℕ, zero, suc, _+_, _<_, _≤_}
 use native.Mathlib.Omega.{arith}
 use lib.Dec.{eqb}
 use lib.ListN.{length, getD, set, take, drop}
 use Rattle.std.proofs.shelf.Lists.{take-more, set-split}
 use Rattle.std.specs.shelf.Lists.{removed}
-use Rattle.std.proofs.shelf.Tests.{cases-bool, cond-both, and-parts, ne-eqb, eq-eqb}
+use Rattle.std.proofs.shelf.Tests.{cases-bool, both-ways, cond-both, and-parts, ne-eqb, eq-eqb}
 use Rattle.std.proofs.shelf.Ways.{tells}
 use Rattle.std.specs.declared.option.Option.{Option}
 use Rattle.std.specs.declared.option.Option.the-variants.{Some, None}
 use Rattle.rules.specs.Sides.{Rule, Lawful}
 use Rattle.std.specs.Options.{isSome}
 use Rattle.books.specs.Lists.{front-of, find, stands, shares-at, sound, put, without, less, reduced, AllSound}
-use Rattle.books.specs.Packing.{blank, Place}
+use Rattle.books.specs.Packing.{blank, held, less-at, closed-up, Place, Front}
+use Rattle.books.specs.declared.packed.arrivals.Arrivals.{Arrivals}
 use Rattle.books.specs.Arranging.{all-sound, tally, Distinct, arrange, arranged}
 use Rattle.books.specs.declared.standing.Standing.{Standing}
 use Rattle.books.proofs.Tallies.{tally-append}
-use Rattle.books.proofs.Spots.{split-at, tally-split}
+use Rattle.books.proofs.Spots.{Good, below, read, held-less, held-closed, split-at, tally-split}
 use Rattle.books.proofs.Ranks.{Runs, put-first, runs-put}
 
 pub arrange-append : (rule : Rule) (xs ys list : List Standing) →
@@ -298,37 +299,73 @@ module _ (rule : Rule) (os : List Standing) (i : ℕ) (l : i < length os) (d : D
   pub gone-at : Lawful rule → (k : ℕ) → k ≡ getD os i blank .shares → arranged rule (removed os i) ≡ less (arranged rule os) k
   gone-at law k e = without-at rule os i l d law ∙ without-front (arranged rule os) (getD os i blank) k front e
 
-  pub less-at : (k : ℕ) → (k ≡ getD os i blank .shares → ⊥) →
+  pub reduced-front : (k : ℕ) → (k ≡ getD os i blank .shares → ⊥) →
       arranged rule (set os i (reduced (getD os i blank) k)) ≡ less (arranged rule os) k
-  less-at k e =
+  reduced-front k e =
       fewer-at rule os i l d k ∙
       fewer-front (arranged rule os) (getD os i blank) k
       (omega (arith, tally-arrange (getD os i blank .number) rule os [], d (getD os i blank .number))) front e
 
 -- What a place says of the arranged list
 
-pub absent-arranged : (rule : Rule) (n : ℕ) (os : List Standing) → tally n os ≡ 0 → find n (arranged rule os) ≡ None
-absent-arranged rule n os h = find-none n (arranged rule os) (omega (arith, h, tally-arrange n rule os []))
+absent-tally : (m : ℕ) (xs : List Standing) (n : ℕ) → ((k : ℕ) → k < n → getD xs k blank .number ≡ m → ⊥) →
+    tally m (take n xs) ≡ 0
+absent-tally m xs zero h = refl
+absent-tally m [] (suc n) h = refl
+absent-tally m (x ∷ xs) (suc n) h =
+    let t = absent-tally m xs n (λ k l. h (suc k) (omega arith)) in
+    let d : eqb (x .number) m ≡ false = ne-eqb (x .number) m (h 0 (omega arith)) in
+    ap (λ b. cond {A = ℕ} b 1 0 + tally m (take n xs)) d ∙ omega arith
 
-pub find-place : (rule : Rule) (n : ℕ) (os : List Standing) → Distinct os → (i : ℕ) → Place n os (Some i) →
-    find n (arranged rule os) ≡ Some (getD os i blank)
-find-place rule n os d i p = ap (λ m. find m (arranged rule os)) (sym (p .1)) ∙ find-at rule os i (p .0) d
+pub absent-arranged : (rule : Rule) (v : Arrivals) (n : ℕ) → Place n v None → find n (arranged rule (held v)) ≡ None
+absent-arranged rule v n p =
+    find-none n (arranged rule (held v))
+    (omega (arith, absent-tally n (v .spots) (v .count) p, tally-arrange n rule (held v) []))
 
-pub stands-place : (rule : Rule) (n : ℕ) (os : List Standing) → Distinct os → (r : Option ℕ) → Place n os r →
-    stands n (arranged rule os) ≡ isSome r
-stands-place rule n os d None p = ap isSome (absent-arranged rule n os p)
-stands-place rule n os d (Some i) p = ap isSome (find-place rule n os d i p)
+pub fresh : (v : Arrivals) (n : ℕ) → (r : Option ℕ) → Place n v r → false ≡ isSome r → tally n (held v) ≡ 0
+fresh v n None p e = absent-tally n (v .spots) (v .count) p
+fresh v n (Some i) p e = absurd (both-ways true (sym e) refl)
+
+module _ (rule : Rule) (v : Arrivals) (good : Good v) where
+  pub find-place : (n i : ℕ) → Place n v (Some i) → find n (arranged rule (held v)) ≡ Some (getD (v .spots) i blank)
+  find-place n i p =
+      let e = read v i (p .0) in
+      ap (λ m. find m (arranged rule (held v))) (sym (ap (λ o. o .number) e ∙ p .1)) ∙
+      find-at rule (held v) i (below v good i (p .0)) (good .3) ∙
+      ap Some e
+
+  stands-place : (n : ℕ) (r : Option ℕ) → Place n v r → stands n (arranged rule (held v)) ≡ isSome r
+  stands-place n None p = ap isSome (absent-arranged rule v n p)
+  stands-place n (Some i) p = ap isSome (find-place n i p)
+
+  pub gone-place : Lawful rule → (n i : ℕ) → Place n v (Some i) →
+      arranged rule (held (closed-up v i)) ≡ without n (arranged rule (held v))
+  gone-place law n i p =
+      ap (arranged rule) (held-closed v good i (p .0)) ∙
+      without-at rule (held v) i (below v good i (p .0)) (good .3) law ∙
+      ap (λ m. without m (arranged rule (held v))) (ap (λ o. o .number) (read v i (p .0)) ∙ p .1)
+
+  pub gone-front : Lawful rule → (i : ℕ) → Front rule v (Some i) → (k : ℕ) → k ≡ getD (v .spots) i blank .shares →
+      arranged rule (held (closed-up v i)) ≡ less (arranged rule (held v)) k
+  gone-front law i p k e =
+      ap (arranged rule) (held-closed v good i (p .0)) ∙
+      gone-at rule (held v) i (below v good i (p .0)) (good .3) (p .1 ∙ sym (ap Some (read v i (p .0)))) law k
+      (e ∙ sym (ap (λ o. o .shares) (read v i (p .0))))
+
+  pub less-front : (i : ℕ) → Front rule v (Some i) → (k : ℕ) → (k ≡ getD (v .spots) i blank .shares → ⊥) →
+      arranged rule (held (less-at v i k)) ≡ less (arranged rule (held v)) k
+  less-front i p k d =
+      ap (arranged rule) (held-less v good i (p .0) k) ∙
+      reduced-front rule (held v) i (below v good i (p .0)) (good .3) (p .1 ∙ sym (ap Some (read v i (p .0)))) k
+      (λ e. d (e ∙ ap (λ o. o .shares) (read v i (p .0))))
+
+  -- whether an order can be added, from the two tests of it
+  pub fit-place : (o : Standing) (r : Option ℕ) → Place (o .number) v r → (is there : Bool) → is ≡ sound o → there ≡ isSome r →
+      (sound o && not (stands (o .number) (arranged rule (held v)))) ≡ (is && not there)
+  fit-place o r p is there e f = let s = stands-place (o .number) r p in cc
 
 pub arranged-push : (rule : Rule) (os : List Standing) (o : Standing) → arranged rule (os ++ o ∷ []) ≡ put rule o (arranged rule os)
 arranged-push rule os o = arrange-append rule os (o ∷ []) []
 
 pub length-arranged : (rule : Rule) (os : List Standing) → length (arranged rule os) ≡ length os
 length-arranged rule os = omega (arith, length-arrange rule os [])
-
--- whether an order can be added, from the two tests of it
-pub fit-arranged : (rule : Rule) (os : List Standing) → Distinct os → (o : Standing) (r : Option ℕ) → Place (o .number) os r →
-    (is there : Bool) → is ≡ sound o → there ≡ isSome r →
-    (sound o && not (stands (o .number) (arranged rule os))) ≡ (is && not there)
-fit-arranged rule os d o r p is there e f =
-    let s = stands-place rule (o .number) os d r p in
-    cc

@@ -1,5 +1,5 @@
--- What the first spots hold after a change.
-use mathlib.Core.Path.{_≡_, sym, ap, _∙_}
+-- What the first spots hold after a change, and that it is sound and distinct again.
+use mathlib.Core.Path.{_≡_, refl, sym, ap, subst, _∙_}
 use mathlib.Core.Bool.{true, cond}
 use mathlib.Core.List.{List, [], _∷_, _++_}
 use Prim.Native.Nat.{ℕ, suc, _+_, _-_, _<_, _≤_}
@@ -8,42 +8,20 @@ use native.Mathlib.Omega.{arith}
 use lib.Dec.{eqb}
 use lib.ListN.{length, getD, set, take, drop}
 use lib.Seq.{paste, take-set-lt, take-set-le, drop-cons}
-use Rattle.std.proofs.shelf.Edits.{take-paste}
-use Rattle.std.proofs.shelf.Lists.{take-take, drop-take, take-append-drop, set-split, length-drop, length-take-le, getD-take}
+use Rattle.std.proofs.shelf.Edits.{take-paste, length-paste}
+use Rattle.std.proofs.shelf.Lists.{take-take, drop-take, take-append-drop, take-more-set, set-split, length-set, length-drop, length-take-le, getD-take}
 use Rattle.std.specs.shelf.Lists.{removed}
 use Rattle.std.proofs.shelf.Ways.{tells}
 use Rattle.std.proofs.shelf.Tests.{and-parts, and-from}
-use Rattle.books.specs.Lists.{sound, reduced}
-use Rattle.books.specs.Packing.{blank}
 use Rattle.books.specs.Arranging.{all-sound, tally, Distinct}
+use Rattle.books.specs.Lists.{sound, reduced}
+use Rattle.books.specs.Packing.{blank, held, pushed, less-at, closed-up, moved-down}
+use Rattle.books.specs.declared.packed.arrivals.Arrivals.{Arrivals}
 use Rattle.books.specs.declared.standing.Standing.{Standing}
-use Rattle.books.proofs.Sounds.{all-sound-middle, all-sound-append, most-from-sound}
+use Rattle.books.proofs.Sounds.{all-sound-middle, all-sound-append, sound-reduced, most-from-sound}
 use Rattle.books.proofs.Tallies.{tally-middle, tally-append}
 
-pub below-count : (xs : List Standing) (i n : ℕ) → n ≤ length xs → i < length (take n xs) → i < n
-below-count xs i n m l = omega (arith, length-take-le n xs m)
-
--- the spots up to the end move down over the one at i
-pub closed : (xs : List Standing) (i n : ℕ) → n ≤ length xs → i < length (take n xs) → (ys : List Standing) →
-    ys ≡ paste xs i (drop (i + 1) xs) (n - (i + 1)) → (z : Standing) →
-    take (n - 1) (set ys (n - 1) z) ≡ removed (take n xs) i
-closed xs i n m r ys e z =
-    let l = below-count xs i n m r in
-    take-set-le (n - 1) ys (n - 1) z (omega arith) ∙
-    ap (take (n - 1)) e ∙
-    ap (λ k. take k (paste xs i (drop (i + 1) xs) (n - (i + 1)))) (omega arith) ∙
-    take-paste xs i (drop (i + 1) xs) (n - (i + 1)) (omega arith) (omega (arith, length-drop (i + 1) xs)) ∙
-    ap (λ ws. ws ++ take (n - (i + 1)) (drop (i + 1) xs)) (sym (take-take i n xs (omega arith))) ∙
-    ap (λ ws. take i (take n xs) ++ ws) (sym (drop-take (i + 1) (n - (i + 1)) xs)) ∙
-    ap (λ k. take i (take n xs) ++ drop (i + 1) (take k xs)) (omega arith) ∙
-    ap (λ k. take i (take n xs) ++ drop k (take n xs)) (add-one i)
-
-pub reduced-at : (xs : List Standing) (i n k : ℕ) → n ≤ length xs → i < length (take n xs) →
-    take n (set xs i (reduced (getD xs i blank) k)) ≡ set (take n xs) i (reduced (getD (take n xs) i blank) k)
-reduced-at xs i n k m r =
-    let l = below-count xs i n m r in
-    take-set-lt n xs i (reduced (getD xs i blank) k) l ∙
-    ap (λ o. set (take n xs) i (reduced o k)) (sym (getD-take n xs i blank l))
+-- Lists
 
 -- a list, split at i
 pub split-at : (xs : List Standing) (i : ℕ) → i < length xs → xs ≡ take i xs ++ getD xs i blank ∷ drop (suc i) xs
@@ -90,11 +68,81 @@ distinct-push xs y h z n =
     let w : y .number ≡ n → tally n xs ≡ 0 = λ q. sym (ap (λ m. tally m xs) q) ∙ z in
     grind (arith, tells)
 
-pub shares-most : (xs : List Standing) (n i : ℕ) → n ≤ length xs → i < n → all-sound (take n xs) ≡ true →
-    getD xs i blank .shares ≤ 10000000
-shares-most xs n i m l h =
-    let s = all-sound-split (take n xs) i (omega (arith, length-take-le n xs m)) h .0 in
-    omega (arith, ap (λ o. o .shares) (getD-take n xs i blank l), most-from-sound (getD (take n xs) i blank) s)
+-- the spots up to the end move down over the one at i
+taken-down : (xs : List Standing) (i n : ℕ) → n ≤ length xs → i < n → take (n - 1) (moved-down xs i n) ≡ removed (take n xs) i
+taken-down xs i n m l =
+    take-set-le (n - 1) (paste xs i (drop (i + 1) xs) (n - (i + 1))) (n - 1) blank (omega arith) ∙
+    ap (λ k. take k (paste xs i (drop (i + 1) xs) (n - (i + 1)))) (omega arith) ∙
+    take-paste xs i (drop (i + 1) xs) (n - (i + 1)) (omega arith) (omega (arith, length-drop (i + 1) xs)) ∙
+    ap (λ ws. ws ++ take (n - (i + 1)) (drop (i + 1) xs)) (sym (take-take i n xs (omega arith))) ∙
+    ap (λ ws. take i (take n xs) ++ ws) (sym (drop-take (i + 1) (n - (i + 1)) xs)) ∙
+    ap (λ k. take i (take n xs) ++ drop (i + 1) (take k xs)) (omega arith) ∙
+    ap (λ k. take i (take n xs) ++ drop k (take n xs)) (add-one i)
 
-pub held-most : (xs : List Standing) (n : ℕ) → length xs ≡ 32 → n ≤ 32 → length (take n xs) ≤ 32
-held-most xs n s w = omega (arith, length-take-le n xs (omega arith))
+length-moved : (xs : List Standing) (i n : ℕ) → n ≤ length xs → i < n → length (moved-down xs i n) ≡ length xs
+length-moved xs i n m l =
+    length-set (paste xs i (drop (i + 1) xs) (n - (i + 1))) (n - 1) blank ∙
+    length-paste xs i (drop (i + 1) xs) (n - (i + 1)) (omega arith) (omega (arith, length-drop (i + 1) xs))
+
+-- Arrivals as a packed book keeps them
+
+abbrev pub Good : Arrivals → Type 0
+Good v = (length (v .spots) ≡ 32) × (v .count ≤ 32) × (all-sound (held v) ≡ true) × Distinct (held v)
+
+pub length-held : (v : Arrivals) → length (v .spots) ≡ 32 → v .count ≤ 32 → length (held v) ≡ v .count
+length-held v s w = length-take-le (v .count) (v .spots) (omega arith)
+
+pub read : (v : Arrivals) (i : ℕ) → i < v .count → getD (held v) i blank ≡ getD (v .spots) i blank
+read v i l = getD-take (v .count) (v .spots) i blank l
+
+pub shares-most : (v : Arrivals) (i : ℕ) → length (v .spots) ≡ 32 → v .count ≤ 32 → all-sound (held v) ≡ true → i < v .count →
+    getD (v .spots) i blank .shares ≤ 10000000
+shares-most v i s w h l =
+    let p = all-sound-split (held v) i (omega (arith, length-held v s w)) h .0 in
+    omega (arith, ap (λ o. o .shares) (read v i l), most-from-sound (getD (held v) i blank) p)
+
+module _ (v : Arrivals) (good : Good v) where
+  pub held-pushed : (o : Standing) → v .count < 32 → held (pushed v o) ≡ held v ++ o ∷ []
+  held-pushed o l = take-more-set (v .spots) (v .count) o (omega (arith, good .0))
+
+  pub good-pushed : (o : Standing) → v .count < 32 → sound o ≡ true → tally (o .number) (held v) ≡ 0 → Good (pushed v o)
+  good-pushed o l s f =
+      let e = held-pushed o l in (
+        length-set (v .spots) (v .count) o ∙ good .0,
+        omega arith,
+        ap all-sound e ∙ all-sound-push (held v) o (good .2) s,
+        subst Distinct (sym e) (distinct-push (held v) o (good .3) f),
+      )
+
+  module _ (i : ℕ) (l : i < v .count) where
+    pub below : i < length (held v)
+    below = omega (arith, l, length-held v (good .0) (good .1))
+
+    pub held-less : (k : ℕ) → held (less-at v i k) ≡ set (held v) i (reduced (getD (held v) i blank) k)
+    held-less k =
+        take-set-lt (v .count) (v .spots) i (reduced (getD (v .spots) i blank) k) l ∙
+        ap (λ o. set (held v) i (reduced o k)) (sym (read v i l))
+
+    pub good-less : (k : ℕ) → k < getD (v .spots) i blank .shares → Good (less-at v i k)
+    good-less k m =
+        let e = held-less k in
+        let o = getD (held v) i blank in
+        let s =
+        sound-reduced o k (omega (arith, m, ap (λ p. p .shares) (read v i l)))
+        (all-sound-split (held v) i below (good .2) .0) in (
+          length-set (v .spots) i (reduced (getD (v .spots) i blank) k) ∙ good .0,
+          good .1,
+          ap all-sound e ∙ all-sound-set (held v) i (reduced o k) below (good .2) s,
+          subst Distinct (sym e) (distinct-set (held v) i (reduced o k) below refl (good .3)),
+        )
+
+    pub held-closed : held (closed-up v i) ≡ removed (held v) i
+    held-closed = taken-down (v .spots) i (v .count) (omega (arith, good .0, good .1)) l
+
+    pub good-closed : Good (closed-up v i)
+    good-closed = (
+      length-moved (v .spots) i (v .count) (omega (arith, good .0, good .1)) l ∙ good .0,
+      omega (arith, good .1),
+      ap all-sound held-closed ∙ all-sound-split (held v) i below (good .2) .1,
+      subst Distinct (sym held-closed) (distinct-removed (held v) i below (good .3)),
+    )

@@ -1,8 +1,11 @@
-// The packed book: 32 places of its own, kept by arrival. Who is first is worked out when asked.
+// The packed book: 32 places of its own, and no memory but those.
+ghost use mathlib.Core.Bool.{true};
 ghost use mathlib.Core.List.{[]};
 ghost use mathlib.Core.Path.{_≡_};
+ghost use Prim.Native.Nat.{_≤_};
+ghost use lib.ListN.{length};
+ghost use Rattle.books.specs.Arranging.{all-sound, Distinct, arranged};
 ghost use Rattle.books.specs.Packing.{held};
-ghost use Rattle.books.specs.Arranging.{arranged};
 use crate::book::Book;
 use crate::standing::Standing;
 use rules::refusal::Refusal;
@@ -18,6 +21,10 @@ use self::arrivals::PLACES;
 pub struct Packed<S> {
     arrivals: Arrivals,
     side: PhantomData<S>,
+    ghost size: { length (arrivals .spots) ≡ 32 },
+    ghost within: { arrivals .count ≤ 32 },
+    ghost sound: { all-sound (held arrivals) ≡ true },
+    ghost distinct: { Distinct (held arrivals) },
 }
 
 impl<S: Side> Packed<S> {
@@ -72,7 +79,7 @@ pub impl<S: Side> Book for Packed<S> as PackedBook {
         if !order.is_sound() || self.arrivals.index_of(order.number).is_some() {
             return Err(Refusal::BadOrder);
         }
-        if self.arrivals.count() == PLACES {
+        if self.arrivals.is_full() {
             return Err(Refusal::BookFull);
         }
         self.arrivals.push(order);
@@ -99,8 +106,6 @@ pub impl<S: Side> Book for Packed<S> as PackedBook {
         let Some(index) = self.arrivals.index_of(number) else {
             return Err(Refusal::NotStanding);
         };
-        let shares = self.arrivals.at(index).shares;
-        self.arrivals.close_up(index);
-        Ok(shares)
+        Ok(self.arrivals.close_up(index).shares)
     }
 }

@@ -1,5 +1,5 @@
-use native.Mathlib.Omega.{arith}
 use mathlib.Core.List.{[]}
+use native.Mathlib.Omega.{arith}
 use Rattle.books.specs.Packing.{held}
 use Rattle.books.proofs.Arranging.{shares-arrange}
 use Rattle.books.proofs.packed.PackedBook.shares_at.Needs as need

@@ -1,12 +1,9 @@
-use mathlib.Core.Path.{_≡_, ap, _∙_, sym}
+use mathlib.Core.Path.{_≡_, sym, ap, _∙_}
 use native.Mathlib.Omega.{arith}
 use lib.ListN.{take}
-use Rattle.std.proofs.shelf.Lists.{length-take-le, getD-take}
 use Rattle.std.proofs.shelf.Ways.{tells}
-use Rattle.std.specs.declared.option.Option.the-variants.{Some}
-use Rattle.books.specs.Lists.{front-of}
 use Rattle.books.specs.Arranging.{arranged}
-use Rattle.books.specs.Packing.{blank}
+use Rattle.books.specs.Lists.{front-of}
 use Rattle.books.proofs.Arranging.{front-more}
 use Rattle.books.proofs.packed.arrivals.Arrivals.front_index.Needs as need
 use Rattle.books.proofs.packed.arrivals.Arrivals.front_index.Needs.{then-comes-first, else-comes-first}
@@ -26,8 +23,4 @@ pub returns : need.returns
 returns g c =
     let v = c .args .self .now in
     let n : c .loop-i .i ≡ v .count = omega arith in
-    let l = length-take-le (v .count) (v .spots) (omega arith) in
-    let e = getD-take (v .count) (v .spots) (c .loop-i .best) blank (omega arith) in (
-      omega arith,
-      ap (λ k. front-of (arranged (g .S·Side .rule) (take k (v .spots)))) (sym n) ∙ c .loop-i .inv .1 ∙ ap Some (sym e),
-    )
+    (omega arith, ap (λ k. front-of (arranged (g .S·Side .rule) (take k (v .spots)))) (sym n) ∙ c .loop-i .inv .1)

@@ -1,7 +1,8 @@
 use mathlib.Core.Path.{_≡_}
-use lib.ListN.{take}
-use Rattle.books.specs.Arranging.{tally}
+use Prim.Native.Nat.{ℕ, _<_}
+use lib.ListN.{getD}
+use Rattle.books.specs.Packing.{blank}
 use Rattle.books.proofs.packed.arrivals.Arrivals.index_of.Given as given
 
 abbrev pub Inv-loop-i : given.InvT-loop-i
-Inv-loop-i l = tally (l .number) (take (l .i) (l .self .spots)) ≡ 0
+Inv-loop-i l = (k : ℕ) → k < l .i → getD (l .self .spots) k blank .number ≡ l .number → ⊥
