@@ -1,1 +1,4 @@
 pub mod Lists
+pub mod Arranging
+pub mod Packing
+pub mod Histories
