@@ -7,12 +7,12 @@ use Prim.Native.Nat.{ℕ, _+_, _-_, _≤_, _<_, min}
 use native.Mathlib.Numerals.{add-one}
 use native.Mathlib.Omega.{arith}
 use lib.Dec.{eqb, leb}
-use borrow.Author.Tests.{eqb-false}
+use borrow.Author.Tests.{eqb-false, eq-eqb}
 use lib.ListN.{length}
 use Rattle.std.specs.declared.option.Option.{Option}
 use Rattle.std.specs.declared.option.Option.the-variants.{Some, None}
 use Rattle.std.proofs.shelf.Ways.{tells}
-use Rattle.books.specs.Lists.{taken, less, AllSound, sound, front-of}
+use Rattle.books.specs.Lists.{taken, less, reduced, AllSound, sound, front-of}
 use Rattle.books.specs.declared.standing.Standing.{Standing}
 use Rattle.rules.specs.Sides.{Rule}
 use Rattle.matching.specs.Matching.{front-if, front-price, best-against, displayed-passes, dark-passes, displayed-candidate, dark-candidate, chosen, candidate, Scene, displayed-one, dark-one}
@@ -24,10 +24,10 @@ use Rattle.matching.specs.declared.candidate.Entry.{Entry}
 abbrev pub InFront : Candidate → (displayed dark : List Standing) → Type 0
 InFront c displayed dark = front-of (cond (c .dark) dark displayed) ≡ Some (c .order)
 
-none-some : {X : Type 0} {x : X} → None ≡ Some x → ⊥
+pub none-some : {X : Type 0} {x : X} → None ≡ Some x → ⊥
 none-some e = let z : _≡_ {A = ℕ} 0 1 = cc in omega arith
 
-some-same : {X : Type 0} {x y : X} → Some x ≡ Some y → x ≡ y
+pub some-same : {X : Type 0} {x y : X} → Some x ≡ Some y → x ≡ y
 some-same e = cc
 
 front-if-front : (passes : ℕ → Bool) (orders : List Standing) (o : Standing) → front-if passes orders ≡ Some o → front-of orders ≡ Some o
@@ -64,28 +64,31 @@ module _ (rule : Rule) (entry : Entry) (around : Around) (scene : Scene) (c : Ca
       (front-if-front (dark-passes rule entry around (best-against rule around (front-price (scene .displayed)))) (scene .dark))
       (opens .1)
 
--- what is taken from the front order for an entry of n shares
-module _ (o : Standing) (os : List Standing) (n : ℕ) (sound-o : sound o ≡ true) (some : 0 < n) where
-  sound-shares : 0 < o .shares
-  sound-shares = grind (arith, tells)
+pub sound-shares : (o : Standing) → sound o ≡ true → 0 < o .shares
+sound-shares o is = grind (arith, tells)
 
-  accepted : (leb 1 (min (o .shares) n) && leb (min (o .shares) n) (o .shares)) ≡ true
-  accepted = grind (arith, tells)
+-- q shares of the front order
+module _ (o : Standing) (os : List Standing) (q : ℕ) (some : 0 < q) (within : q ≤ o .shares) where
+  taken-is : taken (o ∷ os) q .list ≡ less (o ∷ os) q
+  taken-is = let accepted : (leb 1 q && leb q (o .shares)) ≡ true = grind (arith, tells) in rw accepted
 
-  pub taken-is : taken (o ∷ os) (min (o .shares) n) .list ≡ less (o ∷ os) (min (o .shares) n)
-  taken-is = rw accepted
+  pub taken-all : q ≡ o .shares → taken (o ∷ os) q .list ≡ os
+  taken-all all = let same : eqb q (o .shares) ≡ true = eq-eqb q (o .shares) all in taken-is ∙ rw same
 
-  pub taken-gone : 0 < n - min (o .shares) n → taken (o ∷ os) (min (o .shares) n) .list ≡ os
-  taken-gone more =
-      let all : eqb (min (o .shares) n) (o .shares) ≡ true = grind (arith, tells) in
-      taken-is ∙ rw all
+  pub taken-least : length (taken (o ∷ os) q .list) ≤ length (o ∷ os)
+  taken-least =
+      let P : Bool → Type 0 = λ b. length (cond b os (reduced o q ∷ os)) ≤ length (o ∷ os) in
+      rw taken-is (elim (eqb q (o .shares)) as P [ true ↦ omega arith | false ↦ omega arith ])
 
 -- where the entry is not filled, the order goes
 pub one-fewer : (orders : List Standing) (o : Standing) (n : ℕ) → front-of orders ≡ Some o → AllSound orders → 0 < n → 0 < n - min (o .shares) n → length (taken orders (min (o .shares) n) .list) + 1 ≡ length orders
 one-fewer [] o n front sounds some more = absurd (none-some front)
 one-fewer (x ∷ xs) o n front sounds some more =
     let P : Standing → Type 0 = λ y. 0 < n - min (y .shares) n → length (taken (x ∷ xs) (min (y .shares) n) .list) + 1 ≡ length (x ∷ xs) in
-    subst P (some-same front) (λ h. ap (λ ys. length ys + 1) (taken-gone x xs n (sounds .0) some h) ∙ add-one (length xs)) more
+    let shares = sound-shares x (sounds .0) in
+    subst P (some-same front)
+    (λ h. ap (λ ys. length ys + 1) (taken-all x xs (min (x .shares) n) (omega arith) (omega arith) (omega arith)) ∙ add-one (length xs))
+    more
 
 pub some-stand : (orders : List Standing) (o : Standing) → front-of orders ≡ Some o → 0 < length orders
 some-stand [] o front = absurd (none-some front)
@@ -93,4 +96,4 @@ some-stand (x ∷ xs) o front = omega arith
 
 pub some-shares : (orders : List Standing) (o : Standing) → front-of orders ≡ Some o → AllSound orders → 0 < o .shares
 some-shares [] o front sounds = absurd (none-some front)
-some-shares (x ∷ xs) o front sounds = subst (λ y. 0 < y .shares) (some-same front) (sound-shares x xs 1 (sounds .0) (omega arith))
+some-shares (x ∷ xs) o front sounds = subst (λ y. 0 < y .shares) (some-same front) (sound-shares x (sounds .0))

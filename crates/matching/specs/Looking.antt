@@ -12,7 +12,7 @@ use Rattle.rules.specs.Better.{best-of, better}
 use Rattle.rules.specs.Sides.{Rule, bids, asks}
 use Rattle.rules.specs.declared.price.Quote.{Quote}
 use Rattle.matching.specs.Matching.{at-or-ahead, front-price}
-use Rattle.matching.specs.Trades.{Step, Steps, steps}
+use Rattle.matching.specs.Trades.{Step, Steps, steps, written}
 use Rattle.matching.specs.declared.pair.Pair.{Pair}
 use Rattle.matching.specs.declared.trade.Trade.{Trade}
 
@@ -79,3 +79,9 @@ standing-in books = length (books .bids) + length (books .asks) + length (books 
 -- every trade takes an order out
 abbrev pub looked : (increment : ℕ) → (away : Quote) → Books → Steps Books
 looked increment away books = steps (look-step increment away) (standing-in books) books
+
+-- what the call that looks over leaves: books, the count of trades, and the trades at the front of the caller's list
+pub record Looks (l : Steps Books) (books : Books) (list listed : List Trade) (count : ℕ) : Type 0 where
+  pub books-is : books ≡ l .state
+  pub count-is : count ≡ length (l .trades)
+  pub list-is : listed ≡ written (l .trades) list
