@@ -1,3 +1,4 @@
 pub mod Trades
 pub mod Matching
 pub mod Looking
+pub mod Ways

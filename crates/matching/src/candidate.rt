@@ -12,8 +12,11 @@ use rules::side::Side;
 pub struct Entry {
     pub number: u32,
     pub bound: u32,
+    pub shares: u32,
     pub large: bool,
+    pub immediate: bool,
     pub directed: bool,
+    pub displayed: bool,
 }
 
 // The prices that stay while one entry is matched.

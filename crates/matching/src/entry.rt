@@ -51,10 +51,10 @@ pub fn match_entry<D: Book, K: Book<Side = D::Side>>(
     entered: u32,
     list: &mut [Trade],
 ) -> Left
-    ensures leaves { λ r. ⌜ Leaves (matched (Side·Side .rule) (now (active .entry)) (now (around .entry)) (record { displayed = D·Book .orders (now (displayed .entry)); dark = K·Book .orders (now (dark .entry)); shares = entered })) (D·Book .orders (now (displayed .exit))) (K·Book .orders (now (dark .exit))) (now (list .entry)) (now (list .exit)) r ⌝ }
+    ensures leaves { λ r. ⌜ Leaves (matched (Side·Side .rule) (now (active .entry)) (now (around .entry)) (record { displayed = D·Book .orders (now (displayed .entry)); dark = K·Book .orders (now (dark .entry)); shares = now (active .entry) .shares })) (D·Book .orders (now (displayed .exit))) (K·Book .orders (now (dark .exit))) (now (list .entry)) (now (list .exit)) r ⌝ }
     ensures places { λ _. ⌜ (D·Book .room (now (displayed .exit)) ≡ D·Book .room (now (displayed .entry))) × (K·Book .room (now (dark .exit)) ≡ K·Book .room (now (dark .entry))) ⌝ }
 {
-    let mut shares = entered;
+    let mut shares = active.shares;
     let mut trades = 0;
     while let Some(candidate) = next_candidate(active, around, displayed, dark, shares) {
         let trade = trade_with(active, candidate, shares);

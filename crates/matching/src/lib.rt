@@ -4,3 +4,4 @@ pub mod candidate;
 pub mod entry;
 pub mod pair;
 pub mod trade;
+pub mod way;

@@ -5,7 +5,7 @@ use Rattle.matching.proofs.entry.match_entry.Given as given
 
 abbrev pub Inv-loop-candidate : given.InvT-loop-candidate
 Inv-loop-candidate g l =
-    let start : Scene = record { displayed = g .D·Book .orders (l .entry .displayed); dark = g .K·Book .orders (l .entry .dark); shares = l .entered } in
+    let start : Scene = record { displayed = g .D·Book .orders (l .entry .displayed); dark = g .K·Book .orders (l .entry .dark); shares = l .active .shares } in
     let scene : Scene = record { displayed = g .D·Book .orders (l .displayed); dark = g .K·Book .orders (l .dark); shares = l .shares } in
     Turning (g .Side·Side .rule) (l .active) (l .around) start (l .entry .list) scene (l .list) (l .trades)
     × (g .D·Book .room (l .displayed) ≡ g .D·Book .room (l .entry .displayed))
