@@ -48,7 +48,6 @@ pub fn match_entry<D: Book, K: Book<Side = D::Side>>(
     around: &Around,
     displayed: &mut D,
     dark: &mut K,
-    entered: u32,
     list: &mut [Trade],
 ) -> Left
     ensures leaves { λ r. ⌜ Leaves (matched (Side·Side .rule) (now (active .entry)) (now (around .entry)) (record { displayed = D·Book .orders (now (displayed .entry)); dark = K·Book .orders (now (dark .entry)); shares = now (active .entry) .shares })) (D·Book .orders (now (displayed .exit))) (K·Book .orders (now (dark .exit))) (now (list .entry)) (now (list .exit)) r ⌝ }

@@ -3,5 +3,6 @@
 pub mod candidate;
 pub mod entry;
 pub mod pair;
+pub mod placing;
 pub mod trade;
 pub mod way;
