@@ -1,2 +1,4 @@
 pub mod Phases
 pub mod Quoting
+pub mod Sets
+pub mod Placement
