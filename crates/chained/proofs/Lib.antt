@@ -1,0 +1,4 @@
+pub mod Chain
+pub mod Columns
+pub mod Meant
+pub mod Moves
