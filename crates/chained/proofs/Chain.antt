@@ -5,9 +5,9 @@ use mathlib.Core.List.{List, [], _∷_, map}
 use mathlib.Core.Logic.{_≢_, ⊎-elim}
 use Prim.Native.Nat.{ℕ, zero, suc, _+_, _≤_, _<_}
 use native.Mathlib.Omega.{arith}
-use lib.Dec.{eqb}
+use lib.Dec.{eqb, ltb}
 use lib.ListN.{length}
-use Rattle.std.proofs.shelf.Tests.{eq-eqb, ne-eqb, eqb-true, eqb-false, cond-true, cond-false, cond-both, cases-bool}
+use Rattle.std.proofs.shelf.Tests.{eq-eqb, ne-eqb, lt-ltb, le-ltb, eqb-true, eqb-false, cond-true, cond-false, cond-both, cases-bool, cases-eq}
 use Rattle.chained.specs.Links.{links, times, first, stop}
 
 abbrev pub Chain : (ℕ → ℕ) → ℕ → List ℕ → Type 0
@@ -32,6 +32,29 @@ chain-at n f s false e ih h = (refl, omega (arith, eqb-false s 0 e), ih (omega a
 pub chain-of : (n : ℕ) (f : ℕ → ℕ) (s : ℕ) → length (links n f s) < n → Chain f s (links n f s)
 chain-of zero f s h = absurd (omega arith)
 chain-of (suc n) f s h = chain-at n f s (eqb s 0) refl (chain-of n f (f s)) h
+
+pub length-links : (n : ℕ) (f : ℕ → ℕ) (s : ℕ) → length (links n f s) ≤ n
+length-links zero f s = omega arith
+length-links (suc n) f s =
+    let P : List ℕ → Type 0 = λ xs. length xs ≤ suc n in
+    cond-both (eqb s 0) [] (s ∷ links n f (f s)) P (λ _. omega arith) (λ _. omega (arith, length-links n f (f s)))
+
+-- a chain that begins, taken apart
+pub begins : (f : ℕ → ℕ) (s : ℕ) (xs : List ℕ) → Chain f s xs → s ≢ 0 → (ys : List ℕ) × (xs ≡ s ∷ ys) × Chain f (f s) ys
+begins f s [] c ne = absurd (ne c)
+begins f s (x ∷ xs) c ne = let e : s ≡ x = c .0 in (xs, (cc), subst (λ y. Chain f (f y) xs) (sym e) (c .2))
+
+pub not-zero : (f : ℕ → ℕ) (s : ℕ) (xs : List ℕ) → Chain f s xs → 0 < length xs → s ≢ 0
+not-zero f s [] c some e = omega arith
+not-zero f s (x ∷ xs) c some e = omega (arith, c .0, c .1)
+
+-- one step along a chain that was followed to its end
+pub links-step : (n : ℕ) (f : ℕ → ℕ) (s : ℕ) → Chain f s (links n f s) → s ≢ 0 → (links n f s ≡ s ∷ links n f (f s)) × Chain f (f s) (links n f (f s))
+links-step n f s c ne =
+    let parts = begins f s (links n f s) c ne in
+    let short : length (parts .0) ≤ n = omega (arith, length-links n f s, ap length (parts .1)) in
+    let same : links n f (f s) ≡ parts .0 = links-is n f (f s) (parts .0) (parts .2) short in
+    (parts .1 ∙ ap (λ ys. s ∷ ys) (sym same), subst (λ ys. Chain f (f s) ys) (sym same) (parts .2))
 
 -- How often an index stands in a list
 
@@ -160,3 +183,35 @@ length-cut b (x ∷ xs) some =
 -- what the walk finds stands in the list
 pub first-in : (b : ℕ → Bool) (xs : List ℕ) → 0 < first b xs → 0 < times (first b xs) xs
 first-in b xs some = let e = times-cut b (first b xs) xs some in omega (arith, times-here (first b xs) (cutOut b xs))
+
+-- Indices one after the other
+
+abbrev pub upFrom : (a m : ℕ) → List ℕ
+upFrom a zero = []
+upFrom a (suc m) = a ∷ upFrom (a + 1) m
+
+pub chain-up : (f : ℕ → ℕ) (n : ℕ) → ((k : ℕ) → k < n → f k ≡ cond (ltb (k + 1) n) (k + 1) 0) → (s m : ℕ) → s + 1 + m ≡ n → Chain f (f s) (upFrom (s + 1) m)
+chain-up f n each s zero e =
+    each s (omega arith) ∙ cond-false (ltb (s + 1) n) (s + 1) 0 (le-ltb (s + 1) n (omega arith))
+chain-up f n each s (suc m) e =
+    (each s (omega arith) ∙ cond-true (ltb (s + 1) n) (s + 1) 0 (lt-ltb (s + 1) n (omega arith)),
+        omega arith, chain-up f n each (s + 1) m (omega arith))
+
+pub length-up : (a m : ℕ) → length (upFrom a m) ≡ m
+length-up a zero = refl
+length-up a (suc m) = omega (arith, length-up (a + 1) m)
+
+times-low : (k a m : ℕ) → k < a → times k (upFrom a m) ≡ 0
+times-low k a zero h = refl
+times-low k a (suc m) h = times-other k a (upFrom (a + 1) m) (λ e. omega arith) ∙ times-low k (a + 1) m (omega arith)
+
+pub times-up : (k a m : ℕ) → times k (upFrom a m) ≤ cond (ltb k (a + m)) 1 0
+times-up k a zero = omega arith
+times-up k a (suc m) =
+    let ih = times-up k (a + 1) m in
+    let e : a + 1 + m ≡ a + suc m = omega arith in
+    let same : k ≡ a → times k (upFrom a (suc m)) ≤ cond (ltb k (a + suc m)) 1 0 = λ e.
+        simp (lt-ltb k (a + suc m) (omega arith)) (omega (arith, times-low k (a + 1) m (omega arith), ap (λ y. times y (upFrom a (suc m))) e, times-here a (upFrom (a + 1) m), ap (λ y. times y (upFrom (a + 1) m)) e)) in
+    let other : k ≢ a → times k (upFrom a (suc m)) ≤ cond (ltb k (a + suc m)) 1 0 = λ ne.
+        subst (λ y. times k (upFrom a (suc m)) ≤ cond (ltb k y) 1 0) e (omega (arith, times-other k a (upFrom (a + 1) m) ne)) in
+    ⊎-elim same other (cases-eq k a)

@@ -1,12 +1,14 @@
 -- What a write to one record leaves of each field of all.
-use mathlib.Core.Path.{_≡_, refl, sym, ap, _∙_}
+use mathlib.Core.Path.{_≡_, refl, sym, ap, subst, _∙_}
+use mathlib.Core.Bool.{cond}
 use mathlib.Core.List.{List, [], _∷_}
 use mathlib.Core.Logic.{_≢_}
-use Prim.Native.Nat.{ℕ, zero, suc, _<_}
+use Prim.Native.Nat.{ℕ, zero, suc, _+_, _<_, _≤_}
 use native.Mathlib.Omega.{arith}
+use lib.Dec.{ltb}
 use lib.ListN.{length, getD, set}
-use Rattle.std.proofs.shelf.Lists.{getD-past, getD-set-same, getD-set-other}
-use Rattle.chained.specs.Records.{blank, at, next-of, free-of, order-of, with-next, with-free}
+use Rattle.std.proofs.shelf.Lists.{length-set, getD-set-same, getD-set-other}
+use Rattle.chained.specs.Records.{blank, at, next-of, free-of, order-of, with-next, with-free, Cleared}
 use Rattle.chained.specs.declared.record.Record.{Record}
 
 pub no-anchor : (rs : List Record) → length rs ≡ 0 → 0 ≡ next-of rs 0
@@ -50,3 +52,18 @@ next-under rs k n j = keeps (λ r. r .next) rs k (record { order = order-of rs k
 
 pub order-under-free : (rs : List Record) (k n j : ℕ) → order-of (with-free rs k n) j ≡ order-of rs j
 order-under-free rs k n j = keeps (λ r. r .order) rs k (record { order = order-of rs k; next = next-of rs k; free = n }) refl j
+
+-- the end of clearing: the anchor's link, where there is an anchor
+pub cleared-some : (rs rs′ : List Record) (n k : ℕ) → length rs ≡ n → n ≤ k → ((j : ℕ) → j < k → free-of rs j ≡ cond (ltb (j + 1) n) (j + 1) 0) → 0 < n → rs′ ≡ with-next rs 0 0 → Cleared n rs′
+cleared-some rs rs′ n k e all freed some is = subst (Cleared n) (sym is) (record {
+  many = length-set rs 0 (record { order = order-of rs 0; next = 0; free = free-of rs 0 }) ∙ e;
+  ended = next-same rs 0 0 (omega arith);
+  freed = λ j h. free-under rs 0 0 j ∙ freed j (omega arith);
+})
+
+pub cleared-none : (rs rs′ : List Record) (n k : ℕ) → length rs ≡ n → n ≤ k → ((j : ℕ) → j < k → free-of rs j ≡ cond (ltb (j + 1) n) (j + 1) 0) → n ≤ 0 → rs′ ≡ rs → Cleared n rs′
+cleared-none rs rs′ n k e all freed none is = subst (Cleared n) (sym is) (record {
+  many = e;
+  ended = sym (no-anchor rs (omega arith));
+  freed = λ j h. freed j (omega arith);
+})

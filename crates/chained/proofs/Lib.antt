@@ -2,3 +2,4 @@ pub mod Chain
 pub mod Columns
 pub mod Meant
 pub mod Moves
+pub mod Steps

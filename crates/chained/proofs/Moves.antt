@@ -53,13 +53,6 @@ stop-below b s (x ∷ xs) n h all =
     cond-both (b x) s (stop b x xs) P (λ _. h)
     (λ _. stop-below b x xs n (all x (omega (arith, times-here x xs))) (λ k i. all k (omega (arith, times-tail k x xs))))
 
--- the first of a chain that is not empty
-pub head-is : (f : ℕ → ℕ) (s : ℕ) (xs : List ℕ) → Chain f s xs → 0 < length xs → (ys : List ℕ) × (xs ≡ s ∷ ys) × (0 < s) × Chain f (f s) ys
-head-is f s [] c some = absurd (omega arith)
-head-is f s (x ∷ xs) c some =
-    let e : s ≡ x = c .0 in
-    (xs, (cc), omega (arith, c .1), subst (λ y. Chain f (f y) xs) (sym e) (c .2))
-
 -- two lists that are chains in the records are the two chains of the records
 pub line-is : (rs : List Record) (xs : List ℕ) → Chain (next-of rs) (next-of rs 0) xs → length xs ≤ length rs → line rs ≡ xs
 line-is rs xs c h = links-is (length rs) (next-of rs) (next-of rs 0) xs c h

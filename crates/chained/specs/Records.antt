@@ -2,7 +2,7 @@
 use mathlib.Core.Path.{_≡_}
 use mathlib.Core.Bool.{Bool, true, cond, _&&_}
 use mathlib.Core.List.{List, [], _∷_, map}
-use Prim.Native.Nat.{ℕ, _+_, _-_, _≤_}
+use Prim.Native.Nat.{ℕ, _+_, _-_, _<_, _≤_}
 use lib.Dec.{ltb}
 use lib.ListN.{length, getD, set}
 use Rattle.books.specs.Lists.{sound}
@@ -75,6 +75,12 @@ with-free records k n = set records k (record { order = order-of records k; next
 
 abbrev pub with-order : List Record → (k : ℕ) → Standing → List Record
 with-order records k o = set records k (record { order = o; next = next-of records k; free = free-of records k })
+
+-- n records with no order, in which each leads to the next as a free record
+pub record Cleared (n : ℕ) (records : List Record) : Type 0 where
+  pub many : length records ≡ n
+  pub ended : next-of records 0 ≡ 0
+  pub freed : (k : ℕ) → k < n → free-of records k ≡ cond (ltb (k + 1) n) (k + 1) 0
 
 -- the first free record, here, takes the order and stands behind the one before it
 abbrev pub linked : List Record → (before here : ℕ) → Standing → List Record

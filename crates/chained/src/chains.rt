@@ -1,10 +1,9 @@
 // The links of the records, with no claim that they are well-formed: whoever holds the chains keeps that.
 ghost use mathlib.Core.Path.{_≡_};
-ghost use mathlib.Core.Bool.{cond};
-ghost use Prim.Native.Nat.{ℕ, _+_, _-_, _<_, _≤_};
-ghost use lib.Dec.{ltb};
+ghost use Prim.Native.Nat.{ℕ, _+_, _^_, _<_, _≤_};
 ghost use lib.ListN.{length};
-ghost use Rattle.chained.specs.Records.{at, next-of, free-of, order-of, line, linked, unlinked, with-order, Apart, Whole, found, before-found};
+ghost use Rattle.books.specs.Lists.{shares-at};
+ghost use Rattle.chained.specs.Records.{most-records, at, next-of, free-of, orders-in, linked, unlinked, with-order, Apart, Whole, Cleared, found, before-found};
 use crate::record::Record;
 use crate::walk::Test;
 use books::standing::Standing;
@@ -31,6 +30,13 @@ impl Chains<'_> {
         } else {
             self.records[0].next
         }
+    }
+
+    pub(crate) fn at(&self, here: u16) -> Record
+        requires { ⌜ here < length (now (now self .records)) ⌝ }
+        ensures { λ r. ⌜ r ≡ at (now (now (self .entry) .records)) here ⌝ }
+    {
+        self.records[here as usize]
     }
 
     // Puts the order into the first free record, behind the one before it.
@@ -76,5 +82,61 @@ impl Chains<'_> {
         ensures count { λ _. ⌜ now (self .exit) .count ≡ now (self .entry) .count ⌝ }
     {
         self.records[here as usize].order = order;
+    }
+
+    // Leaves no order, and every record but the anchor free.
+    pub(crate) fn clear(&mut self)
+        requires { ⌜ length (now (now self .records)) ≤ most-records ⌝ }
+        ensures records { λ _. ⌜ Cleared (length (now (now (self .entry) .records))) (now (now (self .exit) .records)) ⌝ }
+        ensures count { λ _. ⌜ now (self .exit) .count ≡ 0 ⌝ }
+    {
+        let end = self.records.len();
+        for k in 0..end {
+            let after = k + 1;
+            self.records[k].free = if after < end { after as u16 } else { 0 };
+        }
+        if end > 0 {
+            self.records[0].next = 0;
+        }
+        self.count = 0;
+    }
+
+    // The first order that passes the test.
+    pub(crate) fn seek<T: Test>(&self, test: &T) -> Spot
+        requires { ⌜ Apart (now (now self .records)) ⌝ }
+        requires { ⌜ Whole (now (now self .records)) ⌝ }
+        ensures before { λ r. ⌜ r .before ≡ before-found (T·Test .meant (now (test .entry))) (now (now (self .entry) .records)) ⌝ }
+        ensures here { λ r. ⌜ r .here ≡ found (T·Test .meant (now (test .entry))) (now (now (self .entry) .records)) ⌝ }
+    {
+        let mut before = 0;
+        let mut here = self.first();
+        while here != 0 {
+            let record = self.at(here);
+            if test.passes(record.order) {
+                return Spot { before, here };
+            }
+            before = here;
+            here = record.next;
+        }
+        Spot { before, here }
+    }
+
+    // The open shares of all orders at a price.
+    pub(crate) fn shares_at(&self, price: u32) -> u64
+        requires { ⌜ Apart (now (now self .records)) ⌝ }
+        requires { ⌜ Whole (now (now self .records)) ⌝ }
+        requires { ⌜ shares-at price (orders-in (now (now self .records))) < 2 ^ 64 ⌝ }
+        ensures { λ r. ⌜ r ≡ shares-at price (orders-in (now (now (self .entry) .records))) ⌝ }
+    {
+        let mut sum = 0;
+        let mut here = self.first();
+        while here != 0 {
+            let record = self.at(here);
+            if record.order.price == price {
+                sum += record.order.shares as u64;
+            }
+            here = record.next;
+        }
+        sum
     }
 }
