@@ -111,3 +111,48 @@ module _ (rs : List Record) (before here : ℕ) (o : Standing) where
       order-under-next (filled rs before here o) before here j
       ∙ (ap (λ r. r .order) (at-other (rest rs here) here j (record { order = o; next = next-of rs before; free = 0 }) nh)
       ∙ order-under-free rs 0 (free-of rs here) j)
+
+-- Unlinking
+
+abbrev passed : List Record → (before here : ℕ) → List Record
+passed rs before here = with-next rs before (next-of rs here)
+
+abbrev freed : List Record → (before here : ℕ) → List Record
+freed rs before here = with-free (passed rs before here) here (free-of rs 0)
+
+module _ (rs : List Record) (before here : ℕ) where
+  pub length-unlinked : length (unlinked rs before here) ≡ length rs
+  length-unlinked = simp length-set
+
+  length-freed : length (freed rs before here) ≡ length rs
+  length-freed = simp length-set
+
+  length-passed : length (passed rs before here) ≡ length rs
+  length-passed = simp length-set
+
+  next-passed : (j : ℕ) → next-of (unlinked rs before here) j ≡ next-of (passed rs before here) j
+  next-passed j = next-under (freed rs before here) 0 here j ∙ next-under (passed rs before here) here (free-of rs 0) j
+
+  pub past-before : before < length rs → next-of (unlinked rs before here) before ≡ next-of rs here
+  past-before h = next-passed before ∙ next-same rs before (next-of rs here) h
+
+  pub past-else : (j : ℕ) → j ≢ before → next-of (unlinked rs before here) j ≡ next-of rs j
+  past-else j nb = next-passed j ∙ next-other rs before j (next-of rs here) nb
+
+  pub back-anchor : 0 < length rs → free-of (unlinked rs before here) 0 ≡ here
+  back-anchor h = free-same (freed rs before here) 0 here (omega (arith, length-freed))
+
+  pub back-here : here < length rs → here ≢ 0 → free-of (unlinked rs before here) here ≡ free-of rs 0
+  back-here h nz =
+      free-other (freed rs before here) 0 here here nz
+      ∙ free-same (passed rs before here) here (free-of rs 0) (omega (arith, length-passed))
+
+  pub back-else : (j : ℕ) → j ≢ here → j ≢ 0 → free-of (unlinked rs before here) j ≡ free-of rs j
+  back-else j nh nz =
+      free-other (freed rs before here) 0 j here nz
+      ∙ (free-other (passed rs before here) here j (free-of rs 0) nh ∙ free-under rs before (next-of rs here) j)
+
+  pub order-unlinked : (j : ℕ) → order-of (unlinked rs before here) j ≡ order-of rs j
+  order-unlinked j =
+      order-under-free (freed rs before here) 0 here j
+      ∙ (order-under-free (passed rs before here) here (free-of rs 0) j ∙ order-under-next rs before (next-of rs here) j)
