@@ -193,9 +193,11 @@ upFrom a (suc m) = a ∷ upFrom (a + 1) m
 pub chain-up : (f : ℕ → ℕ) (n : ℕ) → ((k : ℕ) → k < n → f k ≡ cond (ltb (k + 1) n) (k + 1) 0) → (s m : ℕ) → s + 1 + m ≡ n → Chain f (f s) (upFrom (s + 1) m)
 chain-up f n each s zero e =
     each s (omega arith) ∙ cond-false (ltb (s + 1) n) (s + 1) 0 (le-ltb (s + 1) n (omega arith))
-chain-up f n each s (suc m) e =
-    (each s (omega arith) ∙ cond-true (ltb (s + 1) n) (s + 1) 0 (lt-ltb (s + 1) n (omega arith)),
-        omega arith, chain-up f n each (s + 1) m (omega arith))
+chain-up f n each s (suc m) e = (
+  each s (omega arith) ∙ cond-true (ltb (s + 1) n) (s + 1) 0 (lt-ltb (s + 1) n (omega arith)),
+  omega arith,
+  chain-up f n each (s + 1) m (omega arith),
+)
 
 pub length-up : (a m : ℕ) → length (upFrom a m) ≡ m
 length-up a zero = refl
@@ -211,7 +213,7 @@ times-up k a (suc m) =
     let ih = times-up k (a + 1) m in
     let e : a + 1 + m ≡ a + suc m = omega arith in
     let same : k ≡ a → times k (upFrom a (suc m)) ≤ cond (ltb k (a + suc m)) 1 0 = λ e.
-        simp (lt-ltb k (a + suc m) (omega arith)) (omega (arith, times-low k (a + 1) m (omega arith), ap (λ y. times y (upFrom a (suc m))) e, times-here a (upFrom (a + 1) m), ap (λ y. times y (upFrom (a + 1) m)) e)) in
+    simp (lt-ltb k (a + suc m) (omega arith)) (omega (arith, times-low k (a + 1) m (omega arith), ap (λ y. times y (upFrom a (suc m))) e, times-here a (upFrom (a + 1) m), ap (λ y. times y (upFrom (a + 1) m)) e)) in
     let other : k ≢ a → times k (upFrom a (suc m)) ≤ cond (ltb k (a + suc m)) 1 0 = λ ne.
-        subst (λ y. times k (upFrom a (suc m)) ≤ cond (ltb k y) 1 0) e (omega (arith, times-other k a (upFrom (a + 1) m) ne)) in
+    subst (λ y. times k (upFrom a (suc m)) ≤ cond (ltb k y) 1 0) e (omega (arith, times-other k a (upFrom (a + 1) m) ne)) in
     ⊎-elim same other (cases-eq k a)

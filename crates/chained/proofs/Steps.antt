@@ -76,9 +76,10 @@ module _ (rs : List Record) (meant : Standing → Bool) (before here : ℕ) (w :
     seek-hits t =
         let e = from-here rs here (w .along) some in
         let ys : List ℕ = from rs (next-of rs here) in
-        let h : passing meant rs here ≡ true = ap (λ v. meant (v .order)) (sym is) ∙ t in
-        (sym (w .stops ∙ (ap (stop (passing meant rs) before) e ∙ cond-true (passing meant rs here) before (stop (passing meant rs) here ys) h)),
-            sym (w .finds ∙ (ap (first (passing meant rs)) e ∙ cond-true (passing meant rs here) here (first (passing meant rs) ys) h)))
+        let h : passing meant rs here ≡ true = ap (λ v. meant (v .order)) (sym is) ∙ t in (
+          sym (w .stops ∙ (ap (stop (passing meant rs) before) e ∙ cond-true (passing meant rs here) before (stop (passing meant rs) here ys) h)),
+          sym (w .finds ∙ (ap (first (passing meant rs)) e ∙ cond-true (passing meant rs here) here (first (passing meant rs) ys) h)),
+        )
 
     pub seek-goes : meant (r .order) ≡ false → Seeking rs meant here (r .next)
     seek-goes t =

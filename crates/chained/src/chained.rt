@@ -1,3 +1,4 @@
+// The book in lent records: the chains with what they must keep.
 ghost use mathlib.Core.Path.{_≡_};
 ghost use Prim.Native.Nat.{_≤_};
 ghost use denote.Ref.{now};
@@ -8,6 +9,11 @@ use crate::chains::Chains;
 use rules::side::Side;
 use std::marker::PhantomData;
 
+mod calls;
+
+pub use self::calls::ChainedBook;
+
+#[derive(Drop)]
 pub struct Chained<'a, S: Side> {
     chains: Chains<'a>,
     side: PhantomData<S>,

@@ -2,12 +2,15 @@
 ghost use mathlib.Core.Path.{_≡_};
 ghost use Prim.Native.Nat.{ℕ, _+_, _^_, _<_, _≤_};
 ghost use lib.ListN.{length};
-ghost use Rattle.books.specs.Lists.{shares-at};
+ghost use Rattle.books.specs.Lists.{front-of, find, shares-at};
 ghost use Rattle.chained.specs.Records.{most-records, at, next-of, free-of, orders-in, linked, unlinked, with-order, Apart, Whole, Cleared, found, before-found};
 use crate::record::Record;
+use crate::walk::Numbered;
+use crate::walk::NumberedTest;
 use crate::walk::Test;
 use books::standing::Standing;
 
+#[derive(Drop)]
 pub(crate) struct Chains<'a> {
     pub(crate) records: &'a mut [Record],
     // the orders that stand
@@ -119,6 +122,32 @@ impl Chains<'_> {
             here = record.next;
         }
         Spot { before, here }
+    }
+
+    pub(crate) fn front(&self) -> Option<Standing>
+        requires { ⌜ Apart (now (now self .records)) ⌝ }
+        requires { ⌜ Whole (now (now self .records)) ⌝ }
+        ensures { λ r. ⌜ r ≡ front-of (orders-in (now (now (self .entry) .records))) ⌝ }
+    {
+        let here = self.first();
+        if here == 0 {
+            None
+        } else {
+            Some(self.at(here).order)
+        }
+    }
+
+    pub(crate) fn find(&self, number: u32) -> Option<Standing>
+        requires { ⌜ Apart (now (now self .records)) ⌝ }
+        requires { ⌜ Whole (now (now self .records)) ⌝ }
+        ensures { λ r. ⌜ r ≡ find number (orders-in (now (now (self .entry) .records))) ⌝ }
+    {
+        let spot = self.seek(&Numbered(number));
+        if spot.here == 0 {
+            None
+        } else {
+            Some(self.at(spot.here).order)
+        }
     }
 
     // The open shares of all orders at a price.

@@ -15,6 +15,7 @@ pub(crate) trait Test {
 }
 
 // The order with that number.
+#[derive(Drop)]
 pub(crate) struct Numbered(pub(crate) u32);
 
 pub(crate) impl Test for Numbered as NumberedTest {
@@ -26,6 +27,7 @@ pub(crate) impl Test for Numbered as NumberedTest {
 }
 
 // An order that the price comes ahead of.
+#[derive(Drop)]
 pub(crate) struct Behind<S> {
     pub(crate) price: u32,
     pub(crate) side: PhantomData<S>,

@@ -10,11 +10,11 @@ pub returns : need.returns
 returns c =
     record {
       records = elim (c .if-end-gt0 .came) [
-        then-end-gt0 w ↦
-          cleared-some (now (c .loop-k .self .records)) (now (c .if-end-gt0 .self .records)) (length (now (c .args .self .now .records))) (c .loop-k .k)
+        | then-end-gt0 w ↦
+            cleared-some (now (c .loop-k .self .records)) (now (c .if-end-gt0 .self .records)) (length (now (c .args .self .now .records))) (c .loop-k .k)
             (c .loop-k .inv .0) (c .loop-k-test .left) (c .loop-k .inv .1) (w .if-end-gt0 .taken) (ap (λ s. now (s .records)) (w .self-is))
-      | else-end-gt0 w ↦
-          cleared-none (now (c .loop-k .self .records)) (now (c .if-end-gt0 .self .records)) (length (now (c .args .self .now .records))) (c .loop-k .k)
+        | else-end-gt0 w ↦
+            cleared-none (now (c .loop-k .self .records)) (now (c .if-end-gt0 .self .records)) (length (now (c .args .self .now .records))) (c .loop-k .k)
             (c .loop-k .inv .0) (c .loop-k-test .left) (c .loop-k .inv .1) (w .if-end-gt0 .left) (ap (λ s. now (s .records)) (w .self-is))
       ];
       count = refl;

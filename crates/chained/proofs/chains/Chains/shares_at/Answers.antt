@@ -14,30 +14,30 @@ at-record-requires c κs =
 pub add-sum : need.add-sum
 add-sum c =
     let most = sum-fits (now (c .args .self .now .records)) (c .args .price) (c .loop-here .sum) (c .loop-here .here)
-        (c .loop-here .inv) (c .loop-here-test .taken) (c .at-record .result) (c .at-record .ensures) (c .if-record-price .taken) in
+    (c .loop-here .inv) (c .loop-here-test .taken) (c .at-record .result) (c .at-record .ensures) (c .if-record-price .taken) in
     omega (arith, c .pre .2)
 
 pub loop-here-less-then-record-price : need.loop-here-less-then-record-price
 loop-here-less-then-record-price c =
     along-falls (now (c .args .self .now .records)) (c .loop-here .here) (c .loop-here .inv .along) (c .loop-here-test .taken)
-        (c .at-record .result) (c .at-record .ensures)
+    (c .at-record .result) (c .at-record .ensures)
 
 pub loop-here-again-then-record-price : need.loop-here-again-then-record-price
 loop-here-again-then-record-price c =
     sum-adds (now (c .args .self .now .records)) (c .args .price) (c .loop-here .sum) (c .loop-here .here)
-        (c .loop-here .inv) (c .loop-here-test .taken) (c .at-record .result) (c .at-record .ensures) (c .if-record-price .taken)
+    (c .loop-here .inv) (c .loop-here-test .taken) (c .at-record .result) (c .at-record .ensures) (c .if-record-price .taken)
 
 pub loop-here-less : need.loop-here-less
 loop-here-less c =
     along-falls (now (c .args .self .now .records)) (c .loop-here .here) (c .loop-here .inv .along) (c .loop-here-test .taken)
-        (c .at-record .result) (c .at-record .ensures)
+    (c .at-record .result) (c .at-record .ensures)
 
 pub loop-here-again : need.loop-here-again
 loop-here-again c =
     sum-passes (now (c .args .self .now .records)) (c .args .price) (c .loop-here .sum) (c .loop-here .here)
-        (c .loop-here .inv) (c .loop-here-test .taken) (c .at-record .result) (c .at-record .ensures) (c .if-record-price .left)
+    (c .loop-here .inv) (c .loop-here-test .taken) (c .at-record .result) (c .at-record .ensures) (c .if-record-price .left)
 
 pub returns : need.returns
 returns c =
     sum-ends (now (c .args .self .now .records)) (c .args .price) (c .loop-here .sum) (c .loop-here .here)
-        (c .loop-here .inv) (c .loop-here-test .left)
+    (c .loop-here .inv) (c .loop-here-test .left)

@@ -1,0 +1,132 @@
+// The calls of a chained book.
+ghost use mathlib.Core.List.{[]};
+ghost use mathlib.Core.Path.{_≡_};
+ghost use Prim.Native.Nat.{_-_, min};
+ghost use denote.Ref.{now};
+ghost use lib.ListN.{length};
+ghost use Rattle.books.specs.Lists.{most-places, sound};
+ghost use Rattle.chained.specs.Records.{orders-in, room-in};
+use crate::chained::Chained;
+use crate::chains::Chains;
+use crate::chains::Spot;
+use crate::record::Record;
+use crate::walk::Behind;
+use crate::walk::BehindTest;
+use crate::walk::Numbered;
+use crate::walk::NumberedTest;
+use books::book::Book;
+use books::standing::Standing;
+use rules::refusal::Refusal;
+use rules::side::Side;
+use std::marker::PhantomData;
+
+// 4,096 places and the anchor
+const MOST_RECORDS: usize = 4097;
+
+const MOST_SHARES: u32 = 10_000_000;
+
+fn is_sound(order: Standing) -> bool
+    ensures { λ r. ⌜ r ≡ sound order ⌝ }
+{
+    order.number >= 1 && order.price >= 1 && order.shares >= 1 && order.shares <= MOST_SHARES
+}
+
+impl<'a, S: Side> Chained<'a, S> {
+    // An empty book, whatever the records held.
+    pub fn new(records: &'a mut [Record]) -> Chained<'a, S>
+        ensures list { λ r. ⌜ orders-in (now (r .chains .records)) ≡ [] ⌝ }
+        ensures places { λ r. ⌜ room-in (now (r .chains .records)) ≡ min (length (now (records .entry)) - 1) most-places ⌝ }
+    {
+        let end = records.len().min(MOST_RECORDS);
+        let mut chains = Chains {
+            records: &mut records[0..end],
+            count: 0,
+        };
+        chains.clear();
+        Chained {
+            chains,
+            side: PhantomData,
+        }
+    }
+}
+
+pub impl<S: Side> Book for Chained<'_, S> as ChainedBook {
+    type Side = S;
+
+    ghost orders = { λ b. orders-in (now (b .chains .records)) };
+
+    ghost room = { λ b. room-in (now (b .chains .records)) };
+
+    fn empty(&mut self) {
+        self.chains.clear();
+    }
+
+    fn count(&self) -> usize {
+        self.chains.count
+    }
+
+    fn places(&self) -> usize {
+        let records = self.chains.records.len();
+        if records == 0 { 0 } else { records - 1 }
+    }
+
+    fn front(&self) -> Option<Standing> {
+        self.chains.front()
+    }
+
+    fn find(&self, number: u32) -> Option<Standing> {
+        self.chains.find(number)
+    }
+
+    fn shares_at(&self, price: u32) -> u64 {
+        self.chains.shares_at(price)
+    }
+
+    fn add(&mut self, order: Standing) -> Result<(), Refusal> {
+        if !is_sound(order) || self.chains.find(order.number).is_some() {
+            return Err(Refusal::BadOrder);
+        }
+        if self.chains.count + 1 >= self.chains.records.len() {
+            return Err(Refusal::BookFull);
+        }
+        let behind: Behind<S> = Behind {
+            price: order.price,
+            side: PhantomData,
+        };
+        let spot = self.chains.seek(&behind);
+        self.chains.link(spot.before, order);
+        Ok(())
+    }
+
+    fn take(&mut self, shares: u32) -> Result<(), Refusal> {
+        let Some(order) = self.chains.front() else {
+            return Err(Refusal::BadTake);
+        };
+        if shares == 0 || shares > order.shares {
+            return Err(Refusal::BadTake);
+        }
+        let here = self.chains.first();
+        if shares == order.shares {
+            self.chains.unlink(Spot { before: 0, here });
+        } else {
+            self.chains.replace(
+                here,
+                Standing {
+                    shares: order.shares - shares,
+                    ..order
+                },
+            );
+        }
+        Ok(())
+    }
+
+    fn remove(&mut self, number: u32) -> Result<u32, Refusal> {
+        let spot = self.chains.seek(&Numbered(number));
+        if spot.here == 0 {
+            return Err(Refusal::NotStanding);
+        }
+        let shares = self.chains.at(spot.here).order.shares;
+        self.chains.unlink(spot);
+        Ok(shares)
+    }
+}
