@@ -25,19 +25,20 @@ use Rattle.chained.proofs.Columns.{at-same, at-other, keeps}
 use Rattle.chained.proofs.Meant.{map-same, find-some, find-none, all-is, all-put, all-without}
 use Rattle.chained.proofs.Moves.{line-chain, idle-chain, line-is, idle-is, inside, once, length-linked, length-unlinked}
 use Rattle.chained.proofs.Formed.{formed, line-cleared, formed-cleared, link-here, link-before, formed-linked, count-linked, orders-linked, unlink-here, unlink-before, formed-unlinked, count-unlinked, orders-cut, orders-unlinked}
+use Rattle.chained.proofs.Outcomes.{reduced-sound}
 use Rattle.chained.proofs.Steps.{from, along-starts, along-below, along-goes, from-here, from-zero}
 
 -- in the order of the book's ghost fields
 abbrev pub Held : (count : ℕ) → List Record → Type 0
 Held count rs =
     (length rs ≤ most-records)
-    × ((count ≡ length (line rs)) × (Apart rs × (Whole rs × ((all-sound (orders-in rs) ≡ true) × Unit {0}))))
+    × ((count ≡ length (orders-in rs)) × (Apart rs × (Whole rs × ((all-sound (orders-in rs) ≡ true) × Unit {0}))))
+
+length-orders : (rs : List Record) → length (orders-in rs) ≡ length (line rs)
+length-orders rs = length-map (line rs) (order-of rs)
 
 pub held-kept : (rs : List Record) (count : ℕ) → Held count rs → Kept (room-in rs) (orders-in rs)
-held-kept rs count h = (omega (arith, h .0), omega (arith, h .1 .1 .1 .0, length-map (line rs) (order-of rs)), all-is (orders-in rs) (h .1 .1 .1 .1 .0))
-
-pub counted-orders : (rs : List Record) (count : ℕ) → count ≡ length (line rs) → count ≡ length (orders-in rs)
-counted-orders rs count e = e ∙ sym (length-map (line rs) (order-of rs))
+held-kept rs count h = (omega (arith, h .0), omega (arith, h .1 .1 .1 .0, length-orders rs), all-is (orders-in rs) (h .1 .1 .1 .1 .0))
 
 -- the shares at a price fit: at most 4,096 orders with at most 10,000,000 each
 shares-most : (price : ℕ) (os : List Standing) → all-sound os ≡ true → shares-at price os ≤ 10000000 * length os
@@ -52,7 +53,7 @@ shares-most price (o ∷ os) all =
 
 pub shares-fit : (rs : List Record) (count price : ℕ) → Held count rs → shares-at price (orders-in rs) < 2 ^ 64
 shares-fit rs count price h =
-    omega (arith, shares-most price (orders-in rs) (h .1 .1 .1 .1 .0), length-map (line rs) (order-of rs), h .0, h .1 .1 .1 .0)
+    omega (arith, shares-most price (orders-in rs) (h .1 .1 .1 .1 .0), length-orders rs, h .0, h .1 .1 .1 .0)
 
 -- Clearing
 
@@ -60,7 +61,7 @@ pub held-cleared : (rs : List Record) (n count : ℕ) → n ≤ most-records →
 held-cleared rs n count few c none =
     let l = line-cleared rs n c in
     let f = formed-cleared rs n c in
-    (omega (arith, c .many), (omega (arith, ap length l), (f .0, (f .1, (ap (λ xs. all-sound (map (order-of rs) xs)) l, tt)))))
+    (omega (arith, c .many), (omega (arith, length-orders rs, ap length l), (f .0, (f .1, (ap (λ xs. all-sound (map (order-of rs) xs)) l, tt)))))
 
 pub orders-cleared : (rs : List Record) (n : ℕ) → Cleared n rs → orders-in rs ≡ []
 orders-cleared rs n c = ap (map (order-of rs)) (line-cleared rs n c)
@@ -91,9 +92,9 @@ pub record Added (rule : Rule) (o : Standing) (rs rs′ : List Record) (count′
   pub list : orders-in rs′ ≡ put rule o (orders-in rs)
   pub room : room-in rs′ ≡ room-in rs
 
-module _ (rule : Rule) (o : Standing) (rs : List Record) (count : ℕ) (h : Held count rs) (space : count + 1 < length rs) where
+module _ (rule : Rule) (o : Standing) (rs : List Record) (count : ℕ) (h : Held count rs) (space : length (orders-in rs) < room-in rs) where
   some-idle : 0 < length (idle rs)
-  some-idle = omega (arith, h .1 .0, h .1 .1 .1 .0)
+  some-idle = omega (arith, length-orders rs, h .1 .1 .1 .0)
 
   -- what linking requires
   pub add-before : stop (ahead rule o rs) 0 (line rs) < length rs
@@ -103,7 +104,7 @@ module _ (rule : Rule) (o : Standing) (rs : List Record) (count : ℕ) (h : Held
   add-here = link-here rs (ahead rule o rs) o (h .1 .1 .0) (h .1 .1 .1 .0) some-idle
 
   pub add-count : count < 4096
-  add-count = omega (arith, h .0)
+  add-count = omega (arith, h .0, h .1 .0)
 
   pub added-held : (rs′ : List Record) (before count′ : ℕ) → sound o ≡ true → before ≡ stop (ahead rule o rs) 0 (line rs) → rs′ ≡ linked rs before (free-of rs 0) o → count′ ≡ count + 1 → Added rule o rs rs′ count′
   added-held rs′ before count′ good at-stop is more =
@@ -114,7 +115,7 @@ module _ (rule : Rule) (o : Standing) (rs : List Record) (count : ℕ) (h : Held
       let all : all-sound (orders-in (linked rs p k o)) ≡ true = ap all-sound list ∙ all-put rule o (orders-in rs) good (h .1 .1 .1 .1 .0) in
       let done : Added rule o rs (linked rs p k o) count′ =
       record {
-        held = (omega (arith, h .0, length-linked rs p k o), (omega (arith, more, h .1 .0, count-linked rs (ahead rule o rs) o (h .1 .1 .0) (h .1 .1 .1 .0) some-idle), (f .0, (f .1, (all, tt)))));
+        held = (omega (arith, h .0, length-linked rs p k o), (omega (arith, more, h .1 .0, length-orders rs, length-orders (linked rs p k o), count-linked rs (ahead rule o rs) o (h .1 .1 .0) (h .1 .1 .1 .0) some-idle), (f .0, (f .1, (all, tt)))));
         list = list;
         room = ap (λ n. n - 1) (length-linked rs p k o);
       } in
@@ -138,7 +139,7 @@ module _ (b : ℕ → Bool) (rs : List Record) (count : ℕ) (h : Held count rs)
   cut-before = unlink-before rs b (h .1 .1 .0) (h .1 .1 .1 .0) (omega (arith, some))
 
   pub cut-count : 0 < count
-  cut-count = omega (arith, h .1 .0, count-unlinked rs b (h .1 .1 .0) (h .1 .1 .1 .0) (omega (arith, some)))
+  cut-count = omega (arith, h .1 .0, length-orders rs, count-unlinked rs b (h .1 .1 .0) (h .1 .1 .1 .0) (omega (arith, some)))
 
   pub cut-held : (os : List Standing) (rs′ : List Record) (before here count′ : ℕ) → orders-in (unlinked rs (stop b 0 (line rs)) (first b (line rs))) ≡ os → all-sound os ≡ true → before ≡ stop b 0 (line rs) → here ≡ first b (line rs) → rs′ ≡ unlinked rs before here → count′ + 1 ≡ count → Removed os rs rs′ count′
   cut-held os rs′ before here count′ list all at-stop at-first is fewer =
@@ -148,7 +149,7 @@ module _ (b : ℕ → Bool) (rs : List Record) (count : ℕ) (h : Held count rs)
       let f = formed-unlinked rs b (h .1 .1 .0) (h .1 .1 .1 .0) pos in
       let done : Removed os rs (unlinked rs p k) count′ =
       record {
-        held = (omega (arith, h .0, length-unlinked rs p k), (omega (arith, fewer, h .1 .0, count-unlinked rs b (h .1 .1 .0) (h .1 .1 .1 .0) pos), (f .0, (f .1, (ap all-sound list ∙ all, tt)))));
+        held = (omega (arith, h .0, length-unlinked rs p k), (omega (arith, fewer, h .1 .0, length-orders rs, length-orders (unlinked rs p k), count-unlinked rs b (h .1 .1 .0) (h .1 .1 .1 .0) pos), (f .0, (f .1, (ap all-sound list ∙ all, tt)))));
         list = list;
         room = ap (λ n. n - 1) (length-unlinked rs p k);
       } in
@@ -187,9 +188,6 @@ module _ (rs : List Record) (count : ℕ) (h : Held count rs) (some : next-of rs
   sound-parts : (sound (order-of rs (next-of rs 0)) ≡ true) × (all-sound (behind rs) ≡ true)
   sound-parts = and-parts (sound (order-of rs (next-of rs 0))) (all-sound (behind rs)) (sym (ap all-sound orders-front) ∙ h .1 .1 .1 .1 .0)
 
-  pub front-sound : sound (order-of rs (next-of rs 0)) ≡ true
-  front-sound = sound-parts .0
-
   pub take-count : 0 < count
   take-count = cut-count any rs count h some-any
 
@@ -199,8 +197,8 @@ module _ (rs : List Record) (count : ℕ) (h : Held count rs) (some : next-of rs
       (orders-cut rs any (h .1 .1 .0) (h .1 .1 .1 .0) (omega (arith, some-any)) ∙ ap (λ xs. map (order-of rs) (cutOut any xs)) front-line)
       (sound-parts .1) (sym stop-any) (e ∙ sym first-any) is fewer
 
-  pub taken-part : (o : Standing) (rs′ : List Record) (here count′ : ℕ) → sound o ≡ true → here ≡ next-of rs 0 → rs′ ≡ with-order rs here o → count′ ≡ count → Removed (o ∷ behind rs) rs rs′ count′
-  taken-part o rs′ here count′ good e is same =
+  put-front : (o : Standing) (rs′ : List Record) (here count′ : ℕ) → sound o ≡ true → here ≡ next-of rs 0 → rs′ ≡ with-order rs here o → count′ ≡ count → Removed (o ∷ behind rs) rs rs′ count′
+  put-front o rs′ here count′ good e is same =
       let k : ℕ = next-of rs 0 in
       let v : Record = record { order = o; next = next-of rs k; free = free-of rs k } in
       let ys : List ℕ = from rs (next-of rs (next-of rs 0)) in
@@ -222,11 +220,17 @@ module _ (rs : List Record) (count : ℕ) (h : Held count rs) (some : next-of rs
       let list : orders-in (with-order rs k o) ≡ o ∷ behind rs = ap (map (order-of (with-order rs k o))) (l ∙ front-line) ∙ (cc) in
       let done : Removed (o ∷ behind rs) rs (with-order rs k o) count′ =
       record {
-        held = (omega (arith, h .0, length-set rs k v), (omega (arith, same, h .1 .0, ap length l), (f .0, (f .1, (ap all-sound list ∙ and-from (sound o) (all-sound (behind rs)) good (sound-parts .1), tt)))));
+        held = (omega (arith, h .0, length-set rs k v), (omega (arith, same, h .1 .0, length-orders rs, length-orders (with-order rs k o), ap length l), (f .0, (f .1, (ap all-sound list ∙ and-from (sound o) (all-sound (behind rs)) good (sound-parts .1), tt)))));
         list = list;
         room = ap (λ n. n - 1) (length-set rs k v);
       } in
       subst (λ zs. Removed (o ∷ behind rs) rs zs count′) (sym (is ∙ ap (λ y. with-order rs y o) e)) done
+
+  -- n shares fewer
+  pub taken-part : (o : Standing) (n : ℕ) (rs′ : List Record) (here count′ : ℕ) → o ≡ order-of rs (next-of rs 0) → n ≤ o .shares → n ≢ o .shares → here ≡ next-of rs 0 → rs′ ≡ with-order rs here (reduced (order-of rs here) n) → count′ ≡ count → Removed (reduced o n ∷ behind rs) rs rs′ count′
+  taken-part o n rs′ here count′ front enough ne e is same =
+      put-front (reduced o n) rs′ here count′ (reduced-sound o n (ap sound front ∙ sound-parts .0) enough ne) e
+      (is ∙ ap (λ x. with-order rs here (reduced x n)) (ap (order-of rs) e ∙ sym front)) same
 
 -- Finding by number
 

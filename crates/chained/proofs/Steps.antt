@@ -7,7 +7,7 @@ use Prim.Native.Nat.{ℕ, _+_, _≤_, _<_}
 use native.Mathlib.Omega.{arith}
 use lib.Dec.{eqb}
 use lib.ListN.{length}
-use Rattle.std.proofs.shelf.Tests.{eq-eqb, ne-eqb, cond-true, cond-false}
+use Rattle.std.proofs.shelf.Tests.{cond-true, cond-false}
 use Rattle.books.specs.Lists.{shares-at}
 use Rattle.books.specs.declared.standing.Standing.{Standing}
 use Rattle.chained.specs.Links.{links, times, first, stop}
@@ -118,16 +118,8 @@ module _ (rs : List Record) (price sum here : ℕ) (w : Summing rs price sum her
     goes : Along rs (r .next)
     goes = subst (λ k. Along rs k) (ap (λ v. v .next) (sym is)) (along-goes rs here (w .along) some)
 
-    added : r .order .price ≡ price → sum-from rs price here ≡ r .order .shares + sum-from rs price (r .next)
-    added e = rw (eq-eqb (r .order .price) price e) at step
+    pub sum-goes : (n : ℕ) → n ≡ cond (eqb (r .order .price) price) (r .order .shares) 0 → Summing rs price (sum + n) (r .next)
+    sum-goes n e = record { along = goes; adds = omega (arith, w .adds, step) }
 
-    pub sum-adds : r .order .price ≡ price → Summing rs price (sum + r .order .shares) (r .next)
-    sum-adds e = record { along = goes; adds = omega (arith, w .adds, added e) }
-
-    pub sum-fits : r .order .price ≡ price → sum + r .order .shares ≤ shares-at price (orders-in rs)
-    sum-fits e = omega (arith, w .adds, added e)
-
-    pub sum-passes : (r .order .price ≡ price → ⊥) → Summing rs price sum (r .next)
-    sum-passes ne =
-        let e : sum-from rs price here ≡ 0 + sum-from rs price (r .next) = rw (ne-eqb (r .order .price) price ne) at step in
-        record { along = goes; adds = omega (arith, w .adds, e) }
+    pub sum-fits : (n : ℕ) → n ≡ cond (eqb (r .order .price) price) (r .order .shares) 0 → sum + n ≤ shares-at price (orders-in rs)
+    sum-fits n e = omega (arith, w .adds, step)

@@ -4,7 +4,7 @@ ghost use Prim.Native.Nat.{_≤_};
 ghost use denote.Ref.{now};
 ghost use lib.ListN.{length};
 ghost use mathlib.Core.Bool.{true};
-ghost use Rattle.chained.specs.Records.{most-records, line, orders-in, Apart, Whole, all-sound};
+ghost use Rattle.chained.specs.Records.{most-records, orders-in, Apart, Whole, all-sound};
 use crate::chains::Chains;
 use rules::side::Side;
 use std::marker::PhantomData;
@@ -18,7 +18,7 @@ pub struct Chained<'a, S: Side> {
     chains: Chains<'a>,
     side: PhantomData<S>,
     ghost few: { length (now (chains .records)) ≤ most-records },
-    ghost counted: { chains .count ≡ length (line (now (chains .records))) },
+    ghost counted: { chains .count ≡ length (orders-in (now (chains .records))) },
     ghost apart: { Apart (now (chains .records)) },
     ghost whole: { Whole (now (chains .records)) },
     ghost sound: { all-sound (orders-in (now (chains .records))) ≡ true },

@@ -1,9 +1,11 @@
 // The links of the records, with no claim that they are well-formed: whoever holds the chains keeps that.
+ghost use mathlib.Core.Bool.{cond};
 ghost use mathlib.Core.Path.{_≡_};
 ghost use Prim.Native.Nat.{ℕ, _+_, _^_, _<_, _≤_};
+ghost use lib.Dec.{eqb};
 ghost use lib.ListN.{length};
-ghost use Rattle.books.specs.Lists.{front-of, find, shares-at};
-ghost use Rattle.chained.specs.Records.{most-records, at, next-of, free-of, orders-in, linked, unlinked, with-order, Apart, Whole, Cleared, found, before-found};
+ghost use Rattle.books.specs.Lists.{front-of, find, shares-at, reduced};
+ghost use Rattle.chained.specs.Records.{most-records, at, next-of, free-of, order-of, orders-in, linked, unlinked, with-order, Apart, Whole, Cleared, found, before-found};
 use crate::record::Record;
 use crate::walk::Numbered;
 use crate::walk::NumberedTest;
@@ -63,28 +65,33 @@ impl Chains<'_> {
         self.count += 1;
     }
 
-    // Hands the record at the spot back to the free ones.
-    pub(crate) fn unlink(&mut self, spot: Spot)
+    // Hands the record at the spot back to the free ones, and answers the order that it held.
+    pub(crate) fn unlink(&mut self, spot: Spot) -> Standing
         requires { ⌜ spot .before < length (now (now self .records)) ⌝ }
         requires { ⌜ spot .here < length (now (now self .records)) ⌝ }
         requires { ⌜ 0 < now self .count ⌝ }
+        ensures order { λ r. ⌜ r ≡ order-of (now (now (self .entry) .records)) (spot .here) ⌝ }
         ensures records { λ _. ⌜ now (now (self .exit) .records) ≡ unlinked (now (now (self .entry) .records)) (spot .before) (spot .here) ⌝ }
         ensures count { λ _. ⌜ now (self .exit) .count + 1 ≡ now (self .entry) .count ⌝ }
     {
+        let order = self.records[spot.here as usize].order;
         let next = self.records[spot.here as usize].next;
         let free = self.records[0].free;
         self.records[spot.before as usize].next = next;
         self.records[spot.here as usize].free = free;
         self.records[0].free = spot.here;
         self.count -= 1;
+        order
     }
 
-    pub(crate) fn replace(&mut self, here: u16, order: Standing)
+    // Takes shares from an order in place.
+    pub(crate) fn reduce(&mut self, here: u16, shares: u32)
         requires { ⌜ here < length (now (now self .records)) ⌝ }
-        ensures records { λ _. ⌜ now (now (self .exit) .records) ≡ with-order (now (now (self .entry) .records)) here order ⌝ }
+        requires { ⌜ shares ≤ order-of (now (now self .records)) here .shares ⌝ }
+        ensures records { λ _. ⌜ now (now (self .exit) .records) ≡ with-order (now (now (self .entry) .records)) here (reduced (order-of (now (now (self .entry) .records)) here) shares) ⌝ }
         ensures count { λ _. ⌜ now (self .exit) .count ≡ now (self .entry) .count ⌝ }
     {
-        self.records[here as usize].order = order;
+        self.records[here as usize].order.shares -= shares;
     }
 
     // Leaves no order, and every record but the anchor free.
@@ -161,11 +168,20 @@ impl Chains<'_> {
         let mut here = self.first();
         while here != 0 {
             let record = self.at(here);
-            if record.order.price == price {
-                sum += record.order.shares as u64;
-            }
+            sum += shares_if(record.order, price) as u64;
             here = record.next;
         }
         sum
+    }
+}
+
+// The order's open shares if it stands at that price.
+fn shares_if(order: Standing, price: u32) -> u32
+    ensures { λ r. ⌜ r ≡ cond (eqb (order .price) price) (order .shares) 0 ⌝ }
+{
+    if order.price == price {
+        order.shares
+    } else {
+        0
     }
 }

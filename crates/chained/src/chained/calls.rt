@@ -3,9 +3,10 @@ ghost use mathlib.Core.List.{[]};
 ghost use mathlib.Core.Path.{_≡_};
 ghost use Prim.Native.Nat.{_-_, min};
 ghost use denote.Ref.{now};
+ghost use lib.Dec.{ltb};
 ghost use lib.ListN.{length};
 ghost use Rattle.books.specs.Lists.{most-places, sound};
-ghost use Rattle.chained.specs.Records.{orders-in, room-in};
+ghost use Rattle.chained.specs.Records.{most-records, orders-in, room-in};
 use crate::chained::Chained;
 use crate::chains::Chains;
 use crate::chains::Spot;
@@ -31,13 +32,20 @@ fn is_sound(order: Standing) -> bool
     order.number >= 1 && order.price >= 1 && order.shares >= 1 && order.shares <= MOST_SHARES
 }
 
+// How many of the records that are lent serve the book.
+fn serving(lent: usize) -> usize
+    ensures { λ r. ⌜ r ≡ min lent most-records ⌝ }
+{
+    lent.min(MOST_RECORDS)
+}
+
 impl<'a, S: Side> Chained<'a, S> {
     // An empty book, whatever the records held.
     pub fn new(records: &'a mut [Record]) -> Chained<'a, S>
         ensures list { λ r. ⌜ orders-in (now (r .chains .records)) ≡ [] ⌝ }
         ensures places { λ r. ⌜ room-in (now (r .chains .records)) ≡ min (length (now (records .entry)) - 1) most-places ⌝ }
     {
-        let end = records.len().min(MOST_RECORDS);
+        let end = serving(records.len());
         let mut chains = Chains {
             records: &mut records[0..end],
             count: 0,
@@ -47,6 +55,12 @@ impl<'a, S: Side> Chained<'a, S> {
             chains,
             side: PhantomData,
         }
+    }
+
+    fn has_space(&self) -> bool
+        ensures { λ r. ⌜ r ≡ ltb (length (orders-in (now (now (self .entry) .chains .records)))) (room-in (now (now (self .entry) .chains .records))) ⌝ }
+    {
+        self.count() < self.places()
     }
 }
 
@@ -86,7 +100,7 @@ pub impl<S: Side> Book for Chained<'_, S> as ChainedBook {
         if !is_sound(order) || self.chains.find(order.number).is_some() {
             return Err(Refusal::BadOrder);
         }
-        if self.chains.count + 1 >= self.chains.records.len() {
+        if !self.has_space() {
             return Err(Refusal::BookFull);
         }
         let behind: Behind<S> = Behind {
@@ -109,13 +123,7 @@ pub impl<S: Side> Book for Chained<'_, S> as ChainedBook {
         if shares == order.shares {
             self.chains.unlink(Spot { before: 0, here });
         } else {
-            self.chains.replace(
-                here,
-                Standing {
-                    shares: order.shares - shares,
-                    ..order
-                },
-            );
+            self.chains.reduce(here, shares);
         }
         Ok(())
     }
@@ -125,8 +133,6 @@ pub impl<S: Side> Book for Chained<'_, S> as ChainedBook {
         if spot.here == 0 {
             return Err(Refusal::NotStanding);
         }
-        let shares = self.chains.at(spot.here).order.shares;
-        self.chains.unlink(spot);
-        Ok(shares)
+        Ok(self.chains.unlink(spot).shares)
     }
 }

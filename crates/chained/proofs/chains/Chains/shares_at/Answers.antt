@@ -1,6 +1,6 @@
 use native.Mathlib.Omega.{arith}
 use denote.Ref.{now}
-use Rattle.chained.proofs.Steps.{sum-starts, sum-adds, sum-fits, sum-passes, sum-ends, along-below, along-falls}
+use Rattle.chained.proofs.Steps.{sum-starts, sum-goes, sum-fits, sum-ends, along-below, along-falls}
 use Rattle.chained.proofs.chains.Chains.shares_at.Needs as need
 
 pub loop-here-holds : need.loop-here-holds
@@ -14,18 +14,8 @@ at-record-requires c κs =
 pub add-sum : need.add-sum
 add-sum c =
     let most = sum-fits (now (c .args .self .now .records)) (c .args .price) (c .loop-here .sum) (c .loop-here .here)
-    (c .loop-here .inv) (c .loop-here-test .taken) (c .at-record .result) (c .at-record .ensures) (c .if-record-price .taken) in
+    (c .loop-here .inv) (c .loop-here-test .taken) (c .at-record .result) (c .at-record .ensures) (c .shares-if .result) (c .shares-if .ensures) in
     omega (arith, c .pre .2)
-
-pub loop-here-less-then-record-price : need.loop-here-less-then-record-price
-loop-here-less-then-record-price c =
-    along-falls (now (c .args .self .now .records)) (c .loop-here .here) (c .loop-here .inv .along) (c .loop-here-test .taken)
-    (c .at-record .result) (c .at-record .ensures)
-
-pub loop-here-again-then-record-price : need.loop-here-again-then-record-price
-loop-here-again-then-record-price c =
-    sum-adds (now (c .args .self .now .records)) (c .args .price) (c .loop-here .sum) (c .loop-here .here)
-    (c .loop-here .inv) (c .loop-here-test .taken) (c .at-record .result) (c .at-record .ensures) (c .if-record-price .taken)
 
 pub loop-here-less : need.loop-here-less
 loop-here-less c =
@@ -34,8 +24,8 @@ loop-here-less c =
 
 pub loop-here-again : need.loop-here-again
 loop-here-again c =
-    sum-passes (now (c .args .self .now .records)) (c .args .price) (c .loop-here .sum) (c .loop-here .here)
-    (c .loop-here .inv) (c .loop-here-test .taken) (c .at-record .result) (c .at-record .ensures) (c .if-record-price .left)
+    sum-goes (now (c .args .self .now .records)) (c .args .price) (c .loop-here .sum) (c .loop-here .here)
+    (c .loop-here .inv) (c .loop-here-test .taken) (c .at-record .result) (c .at-record .ensures) (c .shares-if .result) (c .shares-if .ensures)
 
 pub returns : need.returns
 returns c =

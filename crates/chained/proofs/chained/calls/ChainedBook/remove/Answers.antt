@@ -4,8 +4,9 @@ use Prim.Native.Nat.{_<_}
 use native.Mathlib.Omega.{arith}
 use denote.Ref.{now}
 use lib.ListN.{length}
+use Rattle.std.specs.declared.option.Option.the-variants.{Some}
 use Rattle.chained.specs.Links.{first, stop}
-use Rattle.chained.specs.Records.{line, orders-in}
+use Rattle.chained.specs.Records.{at, line, orders-in}
 use Rattle.chained.proofs.Held.{held, found-below, found-none, found-some, cut-before, cut-count, removed-held, numbered}
 use Rattle.chained.proofs.Outcomes.{remove-none, remove-some}
 use Rattle.chained.proofs.chained.calls.ChainedBook.remove.Needs as need
@@ -17,12 +18,6 @@ returns-then-spot-eq0 g c =
     (c .seek-spot .ensures .here) (c .if-spot-eq0 .taken) in
     let out = remove-none (c .args .number) (orders-in (now (b .chains .records))) (sym none) in
     record { answer = sym (ap (λ o. o .answer) out); list = sym (ap (λ o. o .list) out); places = refl }
-
-pub at-shares-requires : need.at-shares-requires
-at-shares-requires g c κs =
-    let b = c .args .self .now in
-    found-below (now (b .chains .records)) (b .apart) (b .whole) (c .args .number) (c .seek-spot .result .here)
-    (c .seek-spot .ensures .here) (c .if-spot-eq0 .left)
 
 pub unlink-requires : need.unlink-requires
 unlink-requires g c κs =
@@ -53,6 +48,7 @@ returns g c =
     (c .seek-spot .result .here) (c .unlink .last .self .count) (c .seek-spot .ensures .before) (c .seek-spot .ensures .here)
     (c .unlink .ensures .records) (c .unlink .ensures .count) in
     let some = found-some (now (b .chains .records)) (b .apart) (b .whole) (c .args .number) (c .seek-spot .result .here)
-    (c .seek-spot .ensures .here) (c .if-spot-eq0 .left) (c .at-shares .result) (c .at-shares .ensures) in
-    let out = remove-some (c .args .number) (orders-in (now (b .chains .records))) (c .at-shares .result .order) (sym some) in
+    (c .seek-spot .ensures .here) (c .if-spot-eq0 .left) (at (now (b .chains .records)) (c .seek-spot .result .here)) refl in
+    let out = remove-some (c .args .number) (orders-in (now (b .chains .records))) (c .unlink .result)
+    (sym some ∙ ap Some (sym (c .unlink .ensures .order))) in
     record { answer = sym (ap (λ o. o .answer) out); list = done .list ∙ sym (ap (λ o. o .list) out); places = done .room }
