@@ -31,10 +31,10 @@ impl Chains<'_> {
         ensures { λ r. ⌜ r ≡ next-of (now (now (self .entry) .records)) 0 ⌝ }
     {
         if self.records.len() == 0 {
-            0
-        } else {
-            self.records[0].next
+            return 0;
         }
+        let anchor = self.records[0];
+        anchor.next
     }
 
     pub(crate) fn at(&self, here: u16) -> Record
