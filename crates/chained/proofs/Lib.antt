@@ -5,4 +5,5 @@ pub mod Held
 pub mod Meant
 pub mod Moves
 pub mod Outcomes
+pub mod Rest
 pub mod Steps

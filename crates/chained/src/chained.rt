@@ -12,6 +12,8 @@ use std::marker::PhantomData;
 mod calls;
 
 pub use self::calls::ChainedBook;
+pub use self::calls::Task;
+pub use self::calls::lend;
 
 #[derive(Drop)]
 pub struct Chained<'a, S: Side> {

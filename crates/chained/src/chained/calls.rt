@@ -4,7 +4,7 @@ ghost use mathlib.Core.Path.{_≡_};
 ghost use Prim.Native.Nat.{_-_, min};
 ghost use denote.Ref.{now};
 ghost use lib.Dec.{ltb};
-ghost use lib.ListN.{length};
+ghost use lib.ListN.{length, drop};
 ghost use Rattle.books.specs.Lists.{most-places, sound};
 ghost use Rattle.chained.specs.Records.{most-records, orders-in, room-in};
 use crate::chained::Chained;
@@ -37,6 +37,22 @@ fn serving(lent: usize) -> usize
     ensures { λ r. ⌜ r ≡ min lent most-records ⌝ }
 {
     lent.min(MOST_RECORDS)
+}
+
+// What is done with a book while its records are lent.
+pub trait Task<S: Side> {
+    type Answer;
+
+    fn run(self, book: &mut Chained<'_, S>) -> Self::Answer;
+}
+
+// Lends an empty book in the records to a task. Records after the 4,097th stay as they were, whatever the task does.
+pub fn lend<S: Side, T: Task<S>>(records: &mut [Record], task: T) -> T::Answer
+    ensures { λ _. ⌜ drop most-records (now (records .exit)) ≡ drop most-records (now (records .entry)) ⌝ }
+{
+    let end = serving(records.len());
+    let mut book: Chained<S> = Chained::new(&mut records[0..end]);
+    task.run(&mut book)
 }
 
 impl<'a, S: Side> Chained<'a, S> {
