@@ -1,6 +1,6 @@
 -- Each change keeps the two chains well-formed, and means what it should for the orders.
 use mathlib.Core.Path.{_≡_, refl, sym, ap, subst, _∙_}
-use mathlib.Core.Bool.{Bool, true, false, cond}
+use mathlib.Core.Bool.{Bool, cond}
 use mathlib.Core.List.{List, [], _∷_, map}
 use mathlib.Core.Logic.{_≢_}
 use Prim.Native.Nat.{ℕ, zero, suc, _+_, _-_, _≤_, _<_}
@@ -10,10 +10,10 @@ use lib.ListN.{length}
 use Rattle.rules.specs.Sides.{Rule}
 use Rattle.books.specs.Lists.{put, without}
 use Rattle.books.specs.declared.standing.Standing.{Standing}
-use Rattle.chained.specs.Links.{links, times, first, stop}
+use Rattle.chained.specs.Links.{times, first, stop}
 use Rattle.chained.specs.Records.{next-of, free-of, order-of, line, idle, orders-in, Apart, Whole, Cleared, linked, unlinked}
 use Rattle.chained.specs.declared.record.Record.{Record}
-use Rattle.chained.proofs.Chain.{Chain, begins, not-zero, never-zero, frame, times-here, times-tail, stop-in, putIn, cutOut, chain-put, chain-cut, times-put, length-put, times-cut, length-cut, first-in, upFrom, chain-up, length-up, times-up}
+use Rattle.chained.proofs.Chain.{Chain, begins, not-zero, never-zero, frame, times-here, stop-in, putIn, cutOut, chain-put, chain-cut, times-put, length-put, times-cut, length-cut, first-in, upFrom, chain-up, length-up, times-up}
 use Rattle.chained.proofs.Meant.{map-put, map-cut, map-same}
 use Rattle.chained.proofs.Moves.{line-chain, idle-chain, line-is, idle-is, inside, once, once-from, stop-below, length-linked, next-before, next-here, next-else, free-anchor, free-else, order-here, order-else, length-unlinked, past-before, past-else, back-anchor, back-here, back-else, order-unlinked}
 

@@ -1,32 +1,31 @@
 -- What a chained book keeps, call by call: well-formed chains, the count, and sound orders.
 use mathlib.Core.Path.{_≡_, refl, sym, ap, subst, _∙_}
-use mathlib.Core.Bool.{Bool, true, false, cond, _&&_}
+use mathlib.Core.Bool.{Bool, true, _&&_}
 use mathlib.Core.List.{List, [], _∷_, map}
 use mathlib.Core.Logic.{_≢_}
-use Prim.Native.Nat.{ℕ, zero, suc, _+_, _-_, _*_, _≤_, _<_, _^_}
+use Prim.Native.Nat.{ℕ, _+_, _-_, _*_, _≤_, _<_, _^_}
 use native.Mathlib.Omega.{arith}
 use denote.Ref.{now}
 use lib.Dec.{eqb, leb}
-use lib.ListN.{length, set}
+use lib.ListN.{length}
 use Rattle.std.proofs.shelf.Lists.{length-set, length-map}
-use Rattle.std.proofs.shelf.Tests.{cond-both, and-parts, and-from, le-leb, leb-true}
-use Rattle.std.specs.declared.option.Option.{Option}
+use Rattle.std.proofs.shelf.Tests.{cond-both, and-parts, and-from, leb-true}
 use Rattle.std.specs.declared.option.Option.the-variants.{Some, None}
 use Rattle.rules.specs.Prices.{most-shares}
 use Rattle.rules.specs.Sides.{Rule}
-use Rattle.books.specs.Lists.{Kept, find, front-of, put, without, less, reduced, shares-at, sound}
+use Rattle.books.specs.Lists.{most-places, Kept, find, front-of, put, without, reduced, shares-at, sound}
 use Rattle.books.specs.declared.standing.Standing.{Standing}
 use Rattle.chained.specs.Links.{times, first, stop}
-use Rattle.chained.specs.Records.{most-records, at, next-of, free-of, order-of, line, idle, orders-in, room-in, found, before-found, Apart, Whole, Cleared, all-sound, linked, unlinked, with-order}
+use Rattle.chained.specs.Records.{most-records, at, next-of, free-of, order-of, line, idle, orders-in, room-in, Apart, Whole, Cleared, all-sound, linked, unlinked, with-order}
 use Rattle.chained.specs.declared.chained.Chained.{Chained}
 use Rattle.chained.specs.declared.record.Record.{Record}
 use Rattle.chained.proofs.Chain.{Chain, cutOut, frame, never-zero, times-here}
 use Rattle.chained.proofs.Columns.{at-same, at-other, keeps}
 use Rattle.chained.proofs.Meant.{map-same, find-some, find-none, all-is, all-put, all-without}
-use Rattle.chained.proofs.Moves.{line-chain, idle-chain, line-is, idle-is, inside, once, length-linked, length-unlinked}
+use Rattle.chained.proofs.Moves.{line-chain, idle-chain, line-is, idle-is, once, length-linked, length-unlinked}
 use Rattle.chained.proofs.Formed.{formed, line-cleared, formed-cleared, link-here, link-before, formed-linked, count-linked, orders-linked, unlink-here, unlink-before, formed-unlinked, count-unlinked, orders-cut, orders-unlinked}
 use Rattle.chained.proofs.Outcomes.{reduced-sound}
-use Rattle.chained.proofs.Steps.{from, along-starts, along-below, along-goes, from-here, from-zero}
+use Rattle.chained.proofs.Steps.{from, along-starts, along-below, from-here, from-zero}
 
 -- in the order of the book's ghost fields
 abbrev pub Held : (count : ℕ) → List Record → Type 0
@@ -103,7 +102,7 @@ module _ (rule : Rule) (o : Standing) (rs : List Record) (count : ℕ) (h : Held
   pub add-here : free-of rs 0 < length rs
   add-here = link-here rs (ahead rule o rs) o (h .1 .1 .0) (h .1 .1 .1 .0) some-idle
 
-  pub add-count : count < 4096
+  pub add-count : count < most-places
   add-count = omega (arith, h .0, h .1 .0)
 
   pub added-held : (rs′ : List Record) (before count′ : ℕ) → sound o ≡ true → before ≡ stop (ahead rule o rs) 0 (line rs) → rs′ ≡ linked rs before (free-of rs 0) o → count′ ≡ count + 1 → Added rule o rs rs′ count′

@@ -1,19 +1,19 @@
 -- What linking and unlinking records does to the two chains.
 use mathlib.Core.Path.{_≡_, refl, sym, ap, subst, _∙_}
-use mathlib.Core.Bool.{Bool, true, false, cond}
-use mathlib.Core.List.{List, [], _∷_, map}
+use mathlib.Core.Bool.{Bool, cond}
+use mathlib.Core.List.{List, [], _∷_}
 use mathlib.Core.Logic.{_≢_, ⊎-elim}
-use Prim.Native.Nat.{ℕ, zero, suc, _+_, _-_, _≤_, _<_}
+use Prim.Native.Nat.{ℕ, _+_, _≤_, _<_}
 use native.Mathlib.Omega.{arith}
-use lib.Dec.{eqb, ltb}
+use lib.Dec.{ltb}
 use lib.ListN.{length, set}
 use Rattle.std.proofs.shelf.Lists.{length-set}
 use Rattle.std.proofs.shelf.Tests.{cond-both, ltb-true, cases-eq}
 use Rattle.books.specs.declared.standing.Standing.{Standing}
-use Rattle.chained.specs.Links.{links, times, first, stop}
-use Rattle.chained.specs.Records.{at, next-of, free-of, order-of, line, idle, Apart, Whole, linked, unlinked, with-next, with-free}
+use Rattle.chained.specs.Links.{times, stop}
+use Rattle.chained.specs.Records.{next-of, free-of, order-of, line, idle, Apart, Whole, linked, unlinked, with-next, with-free}
 use Rattle.chained.specs.declared.record.Record.{Record}
-use Rattle.chained.proofs.Chain.{Chain, chain-of, links-is, never-zero, frame, times-here, times-tail, times-other, stop-in, putIn, cutOut, chain-put, chain-cut, times-put, length-put, times-cut, length-cut, first-in}
+use Rattle.chained.proofs.Chain.{Chain, chain-of, links-is, never-zero, times-here, times-tail, times-other}
 use Rattle.chained.proofs.Columns.{at-same, at-other, next-same, next-other, next-under, free-same, free-other, free-under, order-under-next, order-under-free}
 
 pub line-chain : (rs : List Record) → Whole rs → Chain (next-of rs) (next-of rs 0) (line rs)

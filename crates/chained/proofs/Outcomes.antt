@@ -1,23 +1,21 @@
 -- What each call's definition comes to, once the checks of the code are passed or failed.
-use mathlib.Core.Path.{_≡_, refl, sym, ap, subst, _∙_}
+use mathlib.Core.Path.{_≡_, sym, ap, _∙_}
 use mathlib.Core.Bool.{Bool, true, false, cond, not, _&&_}
-use mathlib.Core.List.{List, [], _∷_}
+use mathlib.Core.List.{List, _∷_}
 use mathlib.Core.Logic.{_≢_}
-use Prim.Native.Nat.{ℕ, _+_, _-_, _≤_, _<_}
+use Prim.Native.Nat.{ℕ, _-_, _≤_, _<_}
 use native.Mathlib.Omega.{arith}
-use lib.Dec.{eqb, leb, ltb}
+use lib.Dec.{leb, ltb}
 use lib.ListN.{length}
 use Rattle.std.specs.Options.{isSome}
-use Rattle.std.specs.declared.option.Option.{Option}
 use Rattle.std.specs.declared.option.Option.the-variants.{Some, None}
 use Rattle.std.specs.declared.result.Result.the-variants.{Ok, Err}
 use Rattle.std.proofs.shelf.Tests.{and-from, and-parts, lt-ltb, le-ltb, le-leb, leb-true, eq-eqb, ne-eqb}
 use Rattle.rules.specs.Prices.{most-shares}
 use Rattle.rules.specs.Refusals.{check}
 use Rattle.rules.specs.Sides.{Rule}
-use Rattle.rules.specs.declared.refusal.Refusal.{Refusal}
 use Rattle.rules.specs.declared.refusal.Refusal.the-variants.{BadOrder, BookFull, BadTake, NotStanding}
-use Rattle.books.specs.Lists.{find, stands, sound, put, unless, added, add-refusal, taken, take-refusal, less, reduced, removed, removed-found, without, Outcome}
+use Rattle.books.specs.Lists.{find, stands, sound, put, unless, added, taken, less, reduced, removed, removed-found, without, Outcome}
 use Rattle.books.specs.declared.standing.Standing.{Standing}
 
 passed : (o : Standing) (orders : List Standing) → sound o ≡ true → isSome (find (o .number) orders) ≡ false → (sound o && not (stands (o .number) orders)) ≡ true

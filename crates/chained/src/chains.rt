@@ -1,10 +1,10 @@
 // The links of the records, with no claim that they are well-formed: whoever holds the chains keeps that.
 ghost use mathlib.Core.Bool.{cond};
 ghost use mathlib.Core.Path.{_≡_};
-ghost use Prim.Native.Nat.{ℕ, _+_, _^_, _<_, _≤_};
+ghost use Prim.Native.Nat.{_+_, _^_, _<_, _≤_};
 ghost use lib.Dec.{eqb};
 ghost use lib.ListN.{length};
-ghost use Rattle.books.specs.Lists.{front-of, find, shares-at, reduced};
+ghost use Rattle.books.specs.Lists.{most-places, front-of, find, shares-at, reduced};
 ghost use Rattle.chained.specs.Records.{most-records, at, next-of, free-of, order-of, orders-in, linked, unlinked, with-order, Apart, Whole, Cleared, found, before-found};
 use crate::record::Record;
 use crate::walk::Numbered;
@@ -27,6 +27,7 @@ pub(crate) struct Spot {
 }
 
 impl Chains<'_> {
+    // The record of the first order, or 0.
     pub(crate) fn first(&self) -> u16
         ensures { λ r. ⌜ r ≡ next-of (now (now (self .entry) .records)) 0 ⌝ }
     {
@@ -48,7 +49,7 @@ impl Chains<'_> {
     pub(crate) fn link(&mut self, before: u16, order: Standing)
         requires { ⌜ before < length (now (now self .records)) ⌝ }
         requires { ⌜ free-of (now (now self .records)) 0 < length (now (now self .records)) ⌝ }
-        requires { ⌜ now self .count < 4096 ⌝ }
+        requires { ⌜ now self .count < most-places ⌝ }
         ensures records { λ _. ⌜ now (now (self .exit) .records) ≡ linked (now (now (self .entry) .records)) before (free-of (now (now (self .entry) .records)) 0) order ⌝ }
         ensures count { λ _. ⌜ now (self .exit) .count ≡ now (self .entry) .count + 1 ⌝ }
     {
@@ -111,7 +112,7 @@ impl Chains<'_> {
         self.count = 0;
     }
 
-    // The first order that passes the test.
+    // The spot of the first order that passes the test, or behind the last order.
     pub(crate) fn seek<T: Test>(&self, test: &T) -> Spot
         requires { ⌜ Apart (now (now self .records)) ⌝ }
         requires { ⌜ Whole (now (now self .records)) ⌝ }

@@ -39,7 +39,7 @@ fn serving(lent: usize) -> usize
     lent.min(MOST_RECORDS)
 }
 
-// What is done with a book while its records are lent.
+// What is done with a book while it has the records.
 pub trait Task<S: Side> {
     type Answer;
 

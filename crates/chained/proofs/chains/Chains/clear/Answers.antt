@@ -1,5 +1,4 @@
 use mathlib.Core.Path.{refl, ap}
-use native.Mathlib.Omega.{arith}
 use denote.Ref.{now}
 use lib.ListN.{length}
 use Rattle.chained.proofs.Columns.{cleared-none, cleared-some}

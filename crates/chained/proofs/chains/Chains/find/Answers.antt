@@ -1,4 +1,3 @@
-use mathlib.Core.Path.{sym, ap, _∙_}
 use denote.Ref.{now}
 use Rattle.chained.proofs.Held.{found-below, found-none, found-some}
 use Rattle.chained.proofs.chains.Chains.find.Needs as need

@@ -3,7 +3,7 @@ use denote.Ref.{now}
 use lib.ListN.{length}
 use Prim.Native.Nat.{_<_}
 use Rattle.std.specs.declared.option.Option.the-variants.{Some}
-use Rattle.chained.specs.Records.{order-of, at}
+use Rattle.chained.specs.Records.{at}
 use Rattle.chained.proofs.Held.{front-none, front-some, front-below}
 use Rattle.chained.proofs.chains.Chains.front.Needs as need
 

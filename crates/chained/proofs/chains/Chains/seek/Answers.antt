@@ -1,4 +1,4 @@
-use mathlib.Core.Path.{sym, _∙_}
+use mathlib.Core.Path.{sym}
 use denote.Ref.{now}
 use Rattle.chained.proofs.Steps.{seek-starts, seek-hits, seek-goes, seek-ends, along-below, along-falls}
 use Rattle.chained.proofs.chains.Chains.seek.Needs as need
