@@ -8,7 +8,7 @@ use Rattle.std.specs.declared.option.Option.{Option}
 use Rattle.std.specs.declared.option.Option.the-variants.{Some, None}
 use Rattle.std.specs.declared.result.Result.{Result}
 use Rattle.std.specs.declared.result.Result.the-variants.{Ok, Err}
-use Rattle.books.specs.Lists.{find, without, shares-at}
+use Rattle.books.specs.Lists.{find, removed}
 use Rattle.books.specs.declared.standing.Standing.{Standing}
 use Rattle.matching.specs.Looking.{Books}
 use Rattle.matching.specs.Placing.{View, Placed, placed}
@@ -66,25 +66,30 @@ abbrev pub placed-in : SideName → (increment : ℕ) → (away : Quote) → Roo
 placed-in side increment away rooms entry books =
     placed (met-rule side) (own-rule side) increment away (own-room side true rooms) (own-room side false rooms) entry (facing side books)
 
--- the order with that number, in the first of the four books where it stands
-abbrev pub first-found : (a b c d : Option Standing) → Option Standing
-first-found (Some o) b c d = Some o
-first-found None (Some o) c d = Some o
-first-found None None (Some o) d = Some o
-first-found None None None d = d
+-- the order with that number in the first of two lists where it stands
+abbrev pub first-found : (a b : Option Standing) → Option Standing
+first-found None b = b
+first-found (Some o) b = Some o
 
+abbrev pub find-either : (number : ℕ) → (a b : List Standing) → Option Standing
+find-either n a b = first-found (find n a) (find n b)
+
+-- displayed orders are looked for first; a number stands in one book at the most
 abbrev pub find-in : (number : ℕ) → Books → Option Standing
-find-in n b = first-found (find n (b .bids)) (find n (b .asks)) (find n (b .dark-bids)) (find n (b .dark-asks))
+find-in n k = first-found (find-either n (k .bids) (k .asks)) (find-either n (k .dark-bids) (k .dark-asks))
 
-abbrev pub taken-out : (number : ℕ) → Books → (a b c d : Option Standing) → Books
-taken-out n k (Some o) b c d = record { bids = without n (k .bids); asks = k .asks; dark-bids = k .dark-bids; dark-asks = k .dark-asks }
-taken-out n k None (Some o) c d = record { bids = k .bids; asks = without n (k .asks); dark-bids = k .dark-bids; dark-asks = k .dark-asks }
-taken-out n k None None (Some o) d = record { bids = k .bids; asks = k .asks; dark-bids = without n (k .dark-bids); dark-asks = k .dark-asks }
-taken-out n k None None None (Some o) = record { bids = k .bids; asks = k .asks; dark-bids = k .dark-bids; dark-asks = without n (k .dark-asks) }
-taken-out n k None None None None = k
+-- a list that is passed over stays
+abbrev pub unless-found : Option Standing → (number : ℕ) → List Standing → List Standing
+unless-found None n orders = removed n orders .list
+unless-found (Some o) n orders = orders
 
 abbrev pub without-in : (number : ℕ) → Books → Books
-without-in n b = taken-out n b (find n (b .bids)) (find n (b .asks)) (find n (b .dark-bids)) (find n (b .dark-asks))
+without-in n k = record {
+  bids = unless-found None n (k .bids);
+  asks = unless-found (find n (k .bids)) n (k .asks);
+  dark-bids = unless-found (find-either n (k .bids) (k .asks)) n (k .dark-bids);
+  dark-asks = unless-found (first-found (find-either n (k .bids) (k .asks)) (find n (k .dark-bids))) n (k .dark-asks);
+}
 
 abbrev pub shares-or-refusal : Option Standing → Result ℕ Refusal
 shares-or-refusal None = Err NotStanding
