@@ -2,3 +2,4 @@ pub mod Phases
 pub mod Quoting
 pub mod Sets
 pub mod Placement
+pub mod Calls

@@ -1,0 +1,87 @@
+// The checks and the steps of the calls, over plain values and any set of books.
+ghost use mathlib.Core.Path.{_≡_};
+ghost use Rattle.market.specs.Calls.{entry-of, entry-checks, look-in, is-displayed};
+ghost use Rattle.matching.specs.Looking.{Looks};
+use crate::book_set::BookSet;
+use crate::phase::Phase;
+use matching::candidate::Entry;
+use matching::trade::Trade;
+use rules::form::Form;
+use rules::price::Quote;
+use rules::refusal::Refusal;
+use rules::sheet::Class;
+use rules::terms::Kind;
+
+pub(crate) fn is_displayed(kind: Kind) -> bool
+    ensures { λ r. ⌜ r ≡ is-displayed kind ⌝ }
+{
+    match kind {
+        Kind::Displayed => true,
+        Kind::Dark | Kind::HalfStep => false,
+    }
+}
+
+pub(crate) fn entry_of(form: &Form, number: u32) -> Entry
+    ensures { λ r. ⌜ r ≡ entry-of (now (form .entry)) number ⌝ }
+{
+    let terms = form.terms();
+    Entry {
+        number,
+        bound: form.bound(),
+        shares: terms.shares,
+        large: form.is_large(),
+        immediate: terms.immediate,
+        directed: terms.directed,
+        displayed: is_displayed(terms.kind),
+    }
+}
+
+// Why an entry is refused, if it is: its own book has room or not, and the caller's list is long enough or not.
+pub(crate) fn entry_refusal(
+    phase: Phase,
+    class: Class,
+    issued: u32,
+    last: u32,
+    room: bool,
+    listed: bool,
+    form: &Form,
+) -> Option<Refusal>
+    ensures { λ r. ⌜ r ≡ entry-checks phase (class .increment) (class .unit) issued last room listed (now (form .entry)) ⌝ }
+{
+    match phase {
+        Phase::Closed => return Some(Refusal::MarketClosed),
+        Phase::Halted => return Some(Refusal::MarketHalted),
+        Phase::Open => {}
+    }
+    let own = form.class();
+    if own.increment != class.increment || own.unit != class.unit {
+        return Some(Refusal::OtherClass);
+    }
+    if issued >= last {
+        return Some(Refusal::NumbersIssued);
+    }
+    if !form.terms().immediate && !room {
+        return Some(Refusal::OwnBookFull);
+    }
+    if !listed {
+        return Some(Refusal::ShortTradeList);
+    }
+    None
+}
+
+// Only an open market looks over its books.
+pub(crate) fn look<Q: BookSet>(
+    phase: Phase,
+    increment: u32,
+    away: Quote,
+    books: &mut Q,
+    list: &mut [Trade],
+) -> usize
+    ensures looks { λ r. ⌜ Looks (look-in phase increment away (Q·BookSet .lists (now (books .entry)))) (Q·BookSet .lists (now (books .exit))) (now (list .entry)) (now (list .exit)) r ⌝ }
+    ensures rooms { λ _. ⌜ Q·BookSet .rooms (now (books .exit)) ≡ Q·BookSet .rooms (now (books .entry)) ⌝ }
+{
+    match phase {
+        Phase::Open => books.look_over(increment, away, list),
+        Phase::Halted | Phase::Closed => 0,
+    }
+}
