@@ -1,1 +1,2 @@
 pub mod Away
+pub mod Listing

@@ -3,3 +3,4 @@ pub mod Quoting
 pub mod Sets
 pub mod Placement
 pub mod Calls
+pub mod Handling

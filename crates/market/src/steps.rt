@@ -1,16 +1,20 @@
 // The checks and the steps of the calls, over plain values and any set of books.
 ghost use mathlib.Core.Path.{_≡_};
 ghost use Rattle.market.specs.Calls.{entry-of, entry-checks, look-in, is-displayed};
-ghost use Rattle.matching.specs.Looking.{Looks};
+ghost use Rattle.market.specs.Handling.{Handles};
+ghost use Rattle.market.specs.Sets.{placed-in, seen-from};
+ghost use Rattle.matching.specs.Looking.{looked, Looks};
 use crate::book_set::BookSet;
 use crate::phase::Phase;
 use matching::candidate::Entry;
+use matching::placing::Ended;
 use matching::trade::Trade;
 use rules::form::Form;
 use rules::price::Quote;
 use rules::refusal::Refusal;
 use rules::sheet::Class;
 use rules::terms::Kind;
+use rules::terms::SideName;
 
 pub(crate) fn is_displayed(kind: Kind) -> bool
     ensures { λ r. ⌜ r ≡ is-displayed kind ⌝ }
@@ -84,4 +88,29 @@ pub(crate) fn look<Q: BookSet>(
         Phase::Open => books.look_over(increment, away, list),
         Phase::Halted | Phase::Closed => 0,
     }
+}
+
+// What an entry came to, and how many trades the look after it made.
+#[derive(Clone, Copy)]
+pub(crate) struct Handled {
+    pub(crate) ended: Ended,
+    pub(crate) looked: usize,
+}
+
+// Places an entry and looks over the books, writing the trades one after the other.
+pub(crate) fn handle<Q: BookSet>(
+    side: SideName,
+    increment: u32,
+    away: Quote,
+    active: &Entry,
+    books: &mut Q,
+    list: &mut [Trade],
+) -> Handled
+    ensures handles { λ r. ⌜ Handles (placed-in side increment away (Q·BookSet .rooms (now (books .entry))) (now (active .entry)) (Q·BookSet .lists (now (books .entry)))) (looked increment away (seen-from side (placed-in side increment away (Q·BookSet .rooms (now (books .entry))) (now (active .entry)) (Q·BookSet .lists (now (books .entry))) .view))) (Q·BookSet .lists (now (books .exit))) (now (list .entry)) (now (list .exit)) r ⌝ }
+    ensures rooms { λ _. ⌜ Q·BookSet .rooms (now (books .exit)) ≡ Q·BookSet .rooms (now (books .entry)) ⌝ }
+{
+    let ended = books.place(side, increment, away, active, list);
+    let at = ended.trades.min(list.len());
+    let looked = books.look_over(increment, away, &mut list[at..]);
+    Handled { ended, looked }
 }
