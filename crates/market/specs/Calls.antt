@@ -207,9 +207,12 @@ abbrev pub valid-quote : (increment : ℕ) → Option ℕ → Bool
 valid-quote increment None = true
 valid-quote increment (Some p) = valid-price increment p
 
+abbrev pub marketplace-checks : Phase → (aside m : ℕ) → Option Refusal → Option Refusal
+marketplace-checks phase aside m later =
+    check (not-closed phase) MarketClosed (check (is-marketplace m) NoMarketplace (check (not (is-aside m aside)) AlreadyAside later))
+
 abbrev pub marketplace-checked : State → (m : ℕ) → Option Refusal → Option Refusal
-marketplace-checked s m later =
-    first-checked s (check (is-marketplace m) NoMarketplace (check (not (is-aside m (s .aside))) AlreadyAside later))
+marketplace-checked s m later = marketplace-checks (s .phase) (s .aside) m later
 
 abbrev pub notice-refusal : State → (m : ℕ) → Option ℕ → (n : ℕ) → Option Refusal
 notice-refusal s m price n =

@@ -5,3 +5,5 @@ pub mod book_set;
 pub mod phase;
 mod quotes;
 mod steps;
+pub mod trading;
+pub mod venue;

@@ -12,6 +12,7 @@ pub(crate) const NO_QUOTE: Quote = Quote {
     ask: None,
 };
 
+#[derive(Drop)]
 pub(crate) struct Quotes {
     // of marketplace 1 first
     pub(crate) quotes: [Quote; 8],

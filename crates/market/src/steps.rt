@@ -1,11 +1,14 @@
 // The checks and the steps of the calls, over plain values and any set of books.
 ghost use mathlib.Core.Path.{_≡_};
-ghost use Rattle.market.specs.Calls.{entry-of, entry-checks, look-in, is-displayed};
+ghost use Rattle.market.specs.Calls.{entry-of, entry-checks, marketplace-checks, valid-quote, look-in, is-displayed};
 ghost use Rattle.market.specs.Handling.{Handles};
 ghost use Rattle.market.specs.Sets.{placed-in, seen-from};
 ghost use Rattle.matching.specs.Looking.{looked, Looks};
+ghost use Rattle.std.specs.declared.option.Option.the-variants.{None};
 use crate::book_set::BookSet;
 use crate::phase::Phase;
+use crate::phase::PhasePartialEq;
+use crate::quotes::Quotes;
 use matching::candidate::Entry;
 use matching::placing::Ended;
 use matching::trade::Trade;
@@ -71,6 +74,35 @@ pub(crate) fn entry_refusal(
         return Some(Refusal::ShortTradeList);
     }
     None
+}
+
+// Why a notice of a marketplace or its set-aside is refused, if it is, before its price and the list are looked at.
+pub(crate) fn marketplace_refusal(
+    phase: Phase,
+    quotes: &Quotes,
+    marketplace: u32,
+) -> Option<Refusal>
+    ensures { λ r. ⌜ r ≡ marketplace-checks phase (now (quotes .entry) .aside) marketplace None ⌝ }
+{
+    if phase == Phase::Closed {
+        return Some(Refusal::MarketClosed);
+    }
+    if marketplace < 1 || marketplace > 8 {
+        return Some(Refusal::NoMarketplace);
+    }
+    if quotes.is_aside(marketplace) {
+        return Some(Refusal::AlreadyAside);
+    }
+    None
+}
+
+pub(crate) fn is_quote(class: &Class, price: Option<u32>) -> bool
+    ensures { λ r. ⌜ r ≡ valid-quote (now (class .entry) .increment) price ⌝ }
+{
+    match price {
+        None => true,
+        Some(p) => class.is_price(p),
+    }
 }
 
 // Only an open market looks over its books.

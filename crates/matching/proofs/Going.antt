@@ -20,6 +20,24 @@ module _ {X : Type 0} (next : X → Option (Step X)) where
   steps-none zero x none = refl
   steps-none (suc n) x none = ap (λ o. go-on o x (steps next n)) none
 
+  go-length : (n : ℕ) (x : X) (more : X → Steps X) → ((y : X) → length (more y .trades) ≤ n) → (o : Option (Step X)) → length (go-on o x more .trades) ≤ suc n
+  go-length n x more few None = omega arith
+  go-length n x more few (Some s) = omega (arith, few (s .after))
+
+  -- there are no more trades than steps given
+  pub steps-length : (n : ℕ) (x : X) → length (steps next n x .trades) ≤ n
+  unfolding steps
+  steps-length zero x = omega arith
+  steps-length (suc n) x = go-length n x (steps next n) (steps-length n) (next x)
+
+  -- what every step keeps of a state, all of them do
+  pub steps-keep : (P : X → Type 0) → ((x : X) (s : Step X) → next x ≡ Some s → P x → P (s .after)) → (n : ℕ) (x : X) → P x → P (steps next n x .state)
+  unfolding steps
+  steps-keep P keep zero x holds = holds
+  steps-keep P keep (suc n) x holds =
+      let Q : Option (Step X) → Type 0 = λ o. next x ≡ o → P (go-on o x (steps next n) .state) in
+      elim (next x) as Q [ None ↦ λ _. holds | Some s ↦ λ is. steps-keep P keep n (s .after) (keep x s is holds) ] refl
+
   -- n steps were given at the start; the trades made stand at the front of the list
   pub record Progress (n : ℕ) (start : X) (list : List Trade) (x : X) (listed : List Trade) (count : ℕ) : Type 0 where
     pub made : List Trade

@@ -1,22 +1,24 @@
 -- The loop that matches an entry: a trade takes an order out, or fills the entry.
-use mathlib.Core.Path.{_≡_, refl, ap}
+use mathlib.Core.Path.{_≡_, refl, ap, subst}
 use mathlib.Core.Bool.{Bool, true, false, cond}
 use mathlib.Core.List.{List}
 use Prim.Native.Nat.{ℕ, _+_, _-_, _≤_, _<_, min}
 use native.Mathlib.Omega.{arith}
 use lib.ListN.{length, set}
+use Rattle.std.specs.declared.option.Option.{Option}
 use Rattle.std.specs.declared.option.Option.the-variants.{Some, None}
 use Rattle.books.specs.Lists.{taken, AllSound, front-of}
 use Rattle.books.specs.declared.standing.Standing.{Standing}
 use Rattle.rules.specs.Sides.{Rule}
 use Rattle.matching.specs.Matching.{Scene, candidate, trade-with, displayed-after, dark-after, traded, trade-step, match-step, matched, Leaves}
+use Rattle.matching.specs.Trades.{Step}
 use Rattle.matching.specs.declared.candidate.Around.{Around}
 use Rattle.matching.specs.declared.candidate.Candidate.{Candidate}
 use Rattle.matching.specs.declared.candidate.Entry.{Entry}
 use Rattle.matching.specs.declared.entry.Left.{Left}
 use Rattle.matching.specs.declared.trade.Trade.{Trade}
-use Rattle.matching.proofs.Fronts.{candidate-front, shares-open, one-fewer, some-stand, some-shares}
-use Rattle.matching.proofs.Going.{Progress, progress-none, progress-more, progress-state, progress-count, progress-list}
+use Rattle.matching.proofs.Fronts.{none-some, some-same, candidate-front, shares-open, one-fewer, some-stand, some-shares}
+use Rattle.matching.proofs.Going.{steps-keep, Progress, progress-none, progress-more, progress-state, progress-count, progress-list}
 
 abbrev pub standing : Scene → ℕ
 standing scene = length (scene .displayed) + length (scene .dark)
@@ -82,3 +84,13 @@ module _ (rule : Rule) (entry : Entry) (around : Around) where
         trades-is = progress-count (match-step rule entry around) (standing start) start list scene listed count (p .so-far) stop;
         list-is = progress-list (match-step rule entry around) (standing start) start list scene listed count (p .so-far) stop;
       }
+
+  step-shares : (scene : Scene) (o : Option Candidate) (s : Step Scene) → trade-step entry scene o ≡ Some s → s .after .shares ≤ scene .shares
+  step-shares scene None s is = absurd (none-some is)
+  step-shares scene (Some c) s is = subst (λ r. r .after .shares ≤ scene .shares) (some-same is) (omega arith)
+
+  -- matching leaves no more than was entered
+  pub matched-shares : (scene : Scene) → matched rule entry around scene .state .shares ≤ scene .shares
+  matched-shares scene =
+      steps-keep (match-step rule entry around) (λ x. x .shares ≤ scene .shares)
+      (λ x s is below. omega (arith, step-shares x (candidate rule entry around x) s is)) (standing scene) scene (omega arith)
