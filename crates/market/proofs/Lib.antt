@@ -1,2 +1,4 @@
 pub mod Away
 pub mod Listing
+pub mod Checks
+pub mod Handled

@@ -164,16 +164,19 @@ placed-at s form =
 abbrev pub booked-at : State → Form → Placed → State
 booked-at s form p = with-books (with-issued s (s .issued + 1)) (seen-from (form .terms .side) (p .view))
 
+abbrev pub entry-answer : Form → (number : ℕ) → Placed → Steps Books → Entered
+entry-answer form number p l = record {
+  number = number;
+  traded = form .terms .shares - p .rest;
+  booked = way-booked (p .way) (p .rest);
+  cancelled = way-cancelled (p .way) (p .rest);
+  way = p .way;
+  trades = length (p .trades) + length (l .trades);
+}
+
 abbrev pub entered-by : State → Form → Placed → Steps Books → Done Entered
 entered-by s form p l = record {
-  answer = Ok record {
-    number = s .issued + 1;
-    traded = form .terms .shares - p .rest;
-    booked = way-booked (p .way) (p .rest);
-    cancelled = way-cancelled (p .way) (p .rest);
-    way = p .way;
-    trades = length (p .trades) + length (l .trades);
-  };
+  answer = Ok (entry-answer form (s .issued + 1) p l);
   state = with-books (booked-at s form p) (l .state);
   trades = p .trades ++ l .trades;
 }

@@ -1,10 +1,11 @@
 // The checks and the steps of the calls, over plain values and any set of books.
 ghost use mathlib.Core.Path.{_≡_};
 ghost use Rattle.market.specs.Calls.{entry-of, entry-checks, marketplace-checks, valid-quote, look-in, is-displayed};
-ghost use Rattle.market.specs.Handling.{Handles};
+ghost use Rattle.market.specs.Handling.{Handles, Accepts};
 ghost use Rattle.market.specs.Sets.{placed-in, seen-from};
 ghost use Rattle.matching.specs.Looking.{looked, Looks};
 ghost use Rattle.std.specs.declared.option.Option.the-variants.{None};
+use crate::answers::Entered;
 use crate::book_set::BookSet;
 use crate::phase::Phase;
 use crate::phase::PhasePartialEq;
@@ -122,11 +123,11 @@ pub(crate) fn look<Q: BookSet>(
     }
 }
 
-// What an entry came to, and how many trades the look after it made.
+// What an entry came to, and how many trades it and the look after it made.
 #[derive(Clone, Copy)]
 pub(crate) struct Handled {
     pub(crate) ended: Ended,
-    pub(crate) looked: usize,
+    pub(crate) trades: usize,
 }
 
 // Places an entry and looks over the books, writing the trades one after the other.
@@ -144,5 +145,35 @@ pub(crate) fn handle<Q: BookSet>(
     let ended = books.place(side, increment, away, active, list);
     let at = ended.trades.min(list.len());
     let looked = books.look_over(increment, away, &mut list[at..]);
-    Handled { ended, looked }
+    Handled {
+        ended,
+        trades: ended.trades + looked,
+    }
+}
+
+// An accepted entry, and what is answered to it.
+pub(crate) fn accept<Q: BookSet>(
+    form: &Form,
+    number: u32,
+    increment: u32,
+    away: Quote,
+    books: &mut Q,
+    list: &mut [Trade],
+) -> Entered
+    ensures accepts { λ r. ⌜ Accepts (now (form .entry)) number (placed-in (now (form .entry) .terms .side) increment away (Q·BookSet .rooms (now (books .entry))) (entry-of (now (form .entry)) number) (Q·BookSet .lists (now (books .entry)))) (looked increment away (seen-from (now (form .entry) .terms .side) (placed-in (now (form .entry) .terms .side) increment away (Q·BookSet .rooms (now (books .entry))) (entry-of (now (form .entry)) number) (Q·BookSet .lists (now (books .entry))) .view))) (Q·BookSet .lists (now (books .exit))) (now (list .entry)) (now (list .exit)) r ⌝ }
+    ensures rooms { λ _. ⌜ Q·BookSet .rooms (now (books .exit)) ≡ Q·BookSet .rooms (now (books .entry)) ⌝ }
+{
+    let terms = form.terms();
+    let active = entry_of(form, number);
+    let handled = handle(terms.side, increment, away, &active, books, list);
+    let rest = handled.ended.shares;
+    let way = handled.ended.way;
+    Entered {
+        number,
+        traded: terms.shares - rest,
+        booked: way.booked(rest),
+        cancelled: way.cancelled(rest),
+        way,
+        trades: handled.trades,
+    }
 }

@@ -8,9 +8,8 @@ use crate::phase::Event;
 use crate::phase::Phase;
 use crate::phase::PhasePartialEq;
 use crate::quotes::Quotes;
-use crate::steps::entry_of;
+use crate::steps::accept;
 use crate::steps::entry_refusal;
-use crate::steps::handle;
 use crate::steps::is_displayed;
 use crate::steps::is_quote;
 use crate::steps::look;
@@ -80,26 +79,16 @@ pub impl<Q: BookSet> Venue for Market<Q> as MarketVenue {
             return Err(HandedBack { refusal, form });
         }
         let number = self.issued + 1;
-        let active = entry_of(&form, number);
-        let handled = handle(
-            terms.side,
+        let entered = accept(
+            &form,
+            number,
             self.class.increment,
             self.quotes.away(),
-            &active,
             &mut self.books,
             list,
         );
         self.issued = number;
-        let rest = handled.ended.shares;
-        let way = handled.ended.way;
-        Ok(Entered {
-            number,
-            traded: terms.shares - rest,
-            booked: way.booked(rest),
-            cancelled: way.cancelled(rest),
-            way,
-            trades: handled.ended.trades + handled.looked,
-        })
+        Ok(entered)
     }
 
     fn cancel(&mut self, number: u32, list: &mut [Trade]) -> Result<Cancelled, Refusal> {
