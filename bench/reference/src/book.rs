@@ -70,11 +70,18 @@ impl Books {
         ]
     }
 
+    fn all_mut(&mut self) -> [&mut dyn Book; 4] {
+        let Books { displayed, dark } = self;
+        [
+            &mut *displayed.bid,
+            &mut *displayed.ask,
+            &mut *dark.bid,
+            &mut *dark.ask,
+        ]
+    }
+
     pub fn clear(&mut self) {
-        self.displayed.bid.clear();
-        self.displayed.ask.clear();
-        self.dark.bid.clear();
-        self.dark.ask.clear();
+        self.all_mut().into_iter().for_each(Book::clear);
     }
 
     pub fn kept_for(&self, side: Side, displayed: bool) -> &dyn Book {
@@ -101,13 +108,10 @@ impl Books {
         self.all().iter().find_map(|book| book.find(number))
     }
 
-    /// Takes the order out of the one of the four books in which it stands.
-    pub fn remove(&mut self, number: u32) -> Result<u32, Refusal> {
-        self.displayed
-            .bid
-            .remove(number)
-            .or_else(|_| self.displayed.ask.remove(number))
-            .or_else(|_| self.dark.bid.remove(number))
-            .or_else(|_| self.dark.ask.remove(number))
+    /// The one of the four books in which an order stands.
+    pub fn holding(&mut self, number: u32) -> Option<&mut dyn Book> {
+        self.all_mut()
+            .into_iter()
+            .find(|book| book.find(number).is_some())
     }
 }

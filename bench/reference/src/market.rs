@@ -74,10 +74,11 @@ impl Market {
     /// Answers the shares cancelled.
     pub fn cancel(&mut self, number: u32, list: &mut TradeList) -> Result<u32, Refusal> {
         self.check_not_closed()?;
-        self.books.find(number).ok_or(Refusal::NotStanding)?;
-        self.check_list(list)?;
+        let list_check = self.check_list(list);
+        let book = self.books.holding(number).ok_or(Refusal::NotStanding)?;
+        list_check?;
         list.start();
-        let shares = self.books.remove(number)?;
+        let shares = book.remove(number)?;
         self.look_over(list);
         Ok(shares)
     }
