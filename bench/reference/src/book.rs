@@ -115,3 +115,96 @@ impl Books {
             .find(|book| book.find(number).is_some())
     }
 }
+
+/// What a market never asks of a book, and so no rehearsal shows.
+#[cfg(test)]
+mod tests {
+    use super::*;
+    use crate::chained::{ChainedBook, Record};
+    use crate::packed::PackedBook;
+
+    fn order(number: u32, price: u32, shares: u32) -> Order {
+        Order {
+            number,
+            price,
+            shares,
+        }
+    }
+
+    fn books(side: Side) -> [Box<dyn Book>; 2] {
+        let records = vec![Record::default(); 33];
+        [
+            Box::new(PackedBook::new(side)),
+            Box::new(ChainedBook::new(side, records)),
+        ]
+    }
+
+    #[test]
+    fn unfit_orders_are_refused() {
+        for mut book in books(Side::Bid) {
+            assert_eq!(book.add(order(1, 4000, MOST_SHARES)), Ok(()));
+            for unfit in [
+                order(0, 4000, 100),
+                order(2, 0, 100),
+                order(2, 4000, 0),
+                order(2, 4000, MOST_SHARES + 1),
+                order(1, 3996, 100),
+            ] {
+                assert_eq!(book.add(unfit), Err(Refusal::UnfitOrder));
+            }
+            assert_eq!(book.count(), 1);
+        }
+    }
+
+    #[test]
+    fn a_full_book_refuses_and_an_unfit_order_goes_first() {
+        for mut book in books(Side::Ask) {
+            for number in 1..=32 {
+                assert_eq!(book.add(order(number, 4000, 100)), Ok(()));
+            }
+            assert_eq!(book.add(order(33, 4000, 100)), Err(Refusal::NoPlace));
+            assert_eq!(book.add(order(32, 4000, 100)), Err(Refusal::UnfitOrder));
+            assert_eq!(book.places(), 32);
+        }
+    }
+
+    #[test]
+    fn takes_stay_within_the_front_order() {
+        for mut book in books(Side::Ask) {
+            assert_eq!(book.take(1), Err(Refusal::UnfitTake));
+            assert_eq!(book.add(order(1, 4004, 900)), Ok(()));
+            assert_eq!(book.add(order(2, 4000, 200)), Ok(()));
+            assert_eq!(book.take(0), Err(Refusal::UnfitTake));
+            assert_eq!(book.take(201), Err(Refusal::UnfitTake));
+            assert_eq!(book.take(200), Ok(()));
+            assert_eq!(book.front(), Some(order(1, 4004, 900)));
+            assert_eq!(book.remove(2), Err(Refusal::NotStanding));
+            assert_eq!(book.remove(1), Ok(900));
+            assert_eq!(book.front(), None);
+        }
+    }
+
+    #[test]
+    fn orders_leave_by_price_and_then_by_arrival() {
+        for mut book in books(Side::Bid) {
+            for (number, price) in [(1, 3996), (2, 4000), (3, 3996), (4, 4004), (5, 4000)] {
+                assert_eq!(book.add(order(number, price, 100)), Ok(()));
+            }
+            let mut left = Vec::new();
+            while let Some(front) = book.front() {
+                left.push(front.number);
+                assert_eq!(book.take(front.shares), Ok(()));
+            }
+            assert_eq!(left, [4, 2, 5, 1, 3]);
+        }
+    }
+
+    #[test]
+    fn without_records_there_is_no_place() {
+        let mut book = ChainedBook::new(Side::Bid, Vec::new());
+        assert_eq!(book.places(), 0);
+        assert_eq!(book.front(), None);
+        assert_eq!(book.add(order(1, 4000, 100)), Err(Refusal::NoPlace));
+        assert_eq!(book.remove(1), Err(Refusal::NotStanding));
+    }
+}
