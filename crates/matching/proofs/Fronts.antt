@@ -11,10 +11,13 @@ use borrow.Author.Tests.{eqb-false, eq-eqb}
 use lib.ListN.{length}
 use Rattle.std.specs.declared.option.Option.{Option}
 use Rattle.std.specs.declared.option.Option.the-variants.{Some, None}
+use Rattle.std.specs.declared.result.Result.the-variants.{Ok}
 use Rattle.std.proofs.shelf.Ways.{tells}
-use Rattle.books.specs.Lists.{taken, less, reduced, AllSound, sound, front-of}
+use Rattle.books.specs.Lists.{taken, less, reduced, unless, AllSound, sound, front-of}
 use Rattle.books.specs.declared.standing.Standing.{Standing}
+use Rattle.rules.specs.Refusals.{check}
 use Rattle.rules.specs.Sides.{Rule}
+use Rattle.rules.specs.declared.refusal.Refusal.the-variants.{BadTake}
 use Rattle.matching.specs.Matching.{front-if, front-price, best-against, displayed-passes, dark-passes, displayed-candidate, dark-candidate, chosen, candidate, Scene, displayed-one, dark-one}
 use Rattle.matching.specs.declared.candidate.Around.{Around}
 use Rattle.matching.specs.declared.candidate.Candidate.{Candidate}
@@ -97,3 +100,27 @@ some-stand (x ∷ xs) o front = omega arith
 pub some-shares : (orders : List Standing) (o : Standing) → front-of orders ≡ Some o → AllSound orders → 0 < o .shares
 some-shares [] o front sounds = absurd (none-some front)
 some-shares (x ∷ xs) o front sounds = subst (λ y. 0 < y .shares) (some-same front) (sound-shares x (sounds .0))
+
+-- whatever is taken from a list, it is no longer, and its orders stay sound
+pub taken-shorter : (orders : List Standing) (q : ℕ) → length (taken orders q .list) ≤ length orders
+taken-shorter [] q = omega arith
+taken-shorter (o ∷ os) q =
+    let P : Bool → Type 0 = λ b. length (unless (check b BadTake None) (o ∷ os) record { answer = Ok (tt {0}); list = less (o ∷ os) q } .list) ≤ length (o ∷ os) in
+    let R : Bool → Type 0 = λ b. length (cond b os (reduced o q ∷ os)) ≤ length (o ∷ os) in
+    elim (leb 1 q && leb q (o .shares)) as P [
+      | true ↦ elim (eqb q (o .shares)) as R [ true ↦ omega arith | false ↦ omega arith ]
+      | false ↦ omega arith
+    ]
+
+reduced-sound : (o : Standing) (q : ℕ) → sound o ≡ true → (leb 1 q && leb q (o .shares)) ≡ true → eqb q (o .shares) ≡ false → sound (reduced o q) ≡ true
+reduced-sound o q is some other = grind (arith, tells)
+
+pub taken-sound : (orders : List Standing) (q : ℕ) → AllSound orders → AllSound (taken orders q .list)
+taken-sound [] q sounds = sounds
+taken-sound (o ∷ os) q sounds =
+    let P : Bool → Type 0 = λ b. (leb 1 q && leb q (o .shares)) ≡ b → AllSound (unless (check b BadTake None) (o ∷ os) record { answer = Ok (tt {0}); list = less (o ∷ os) q } .list) in
+    let R : Bool → Type 0 = λ b. (leb 1 q && leb q (o .shares)) ≡ true → eqb q (o .shares) ≡ b → AllSound (cond b os (reduced o q ∷ os)) in
+    elim (leb 1 q && leb q (o .shares)) as P [
+      | true ↦ λ some. elim (eqb q (o .shares)) as R [ true ↦ λ _ _. sounds .1 | false ↦ λ t f. (reduced-sound o q (sounds .0) t f, sounds .1) ] some refl
+      | false ↦ λ _. sounds
+    ] refl

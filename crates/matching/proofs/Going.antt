@@ -10,6 +10,10 @@ use Rattle.matching.specs.Trades.{Step, Steps, go-on, steps, written}
 use Rattle.matching.specs.declared.trade.Trade.{Trade}
 use Rattle.matching.proofs.Writing.{written-more}
 
+but-one : (l after before : ℕ) → (0 < l → l < after) → after < before → 2 ≤ before → suc l < before
+but-one zero after before few fall two = omega arith
+but-one (suc l) after before few fall two = omega (arith, few (omega arith))
+
 module _ {X : Type 0} (next : X → Option (Step X)) where
   pub steps-more : (n : ℕ) (x : X) (s : Step X) → next x ≡ Some s → steps next (suc n) x ≡ go-on (Some s) x (steps next n)
   unfolding steps
@@ -37,6 +41,29 @@ module _ {X : Type 0} (next : X → Option (Step X)) where
   steps-keep P keep (suc n) x holds =
       let Q : Option (Step X) → Type 0 = λ o. next x ≡ o → P (go-on o x (steps next n) .state) in
       elim (next x) as Q [ None ↦ λ _. holds | Some s ↦ λ is. steps-keep P keep n (s .after) (keep x s is holds) ] refl
+
+  -- where each step takes from a size, the trades are no more than what was taken
+  module _ (P : X → Type 0) (size : X → ℕ) (falls : (x : X) (s : Step X) → next x ≡ Some s → P x → P (s .after) × (size (s .after) < size x)) where
+    pub steps-spend : (n : ℕ) (x : X) → P x → length (steps next n x .trades) + size (steps next n x .state) ≤ size x
+    unfolding steps
+    steps-spend zero x holds = omega arith
+    steps-spend (suc n) x holds =
+        let Q : Option (Step X) → Type 0 = λ o. next x ≡ o → length (go-on o x (steps next n) .trades) + size (go-on o x (steps next n) .state) ≤ size x in
+        elim (next x) as Q [
+          | None ↦ λ _. omega arith
+          | Some s ↦ λ is. let f = falls x s is holds in omega (arith, f .1, steps-spend n (s .after) (f .0))
+        ] refl
+
+    -- and one fewer, where a step needs two
+    pub steps-but-one : ((x : X) (s : Step X) → next x ≡ Some s → 2 ≤ size x) → (n : ℕ) (x : X) → P x → 0 < length (steps next n x .trades) → length (steps next n x .trades) < size x
+    unfolding steps
+    steps-but-one two zero x holds some = absurd (let no : ⊥ = omega arith in no)
+    steps-but-one two (suc n) x holds some =
+        let Q : Option (Step X) → Type 0 = λ o. next x ≡ o → 0 < length (go-on o x (steps next n) .trades) → length (go-on o x (steps next n) .trades) < size x in
+        elim (next x) as Q [
+          | None ↦ λ _ some. absurd (let no : ⊥ = omega arith in no)
+          | Some s ↦ λ is some. let f = falls x s is holds in but-one (length (steps next n (s .after) .trades)) (size (s .after)) (size x) (steps-but-one two n (s .after) (f .0)) (f .1) (two x s is)
+        ] refl some
 
   -- n steps were given at the start; the trades made stand at the front of the list
   pub record Progress (n : ℕ) (start : X) (list : List Trade) (x : X) (listed : List Trade) (count : ℕ) : Type 0 where

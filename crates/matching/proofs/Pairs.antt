@@ -1,5 +1,5 @@
 -- The loop that looks over the books: the trade of a pair takes an order out.
-use mathlib.Core.Path.{_≡_, ap, sym, subst}
+use mathlib.Core.Path.{_≡_, refl, ap, sym, subst}
 use mathlib.Core.Bool.{Bool, true, false, cond, _&&_}
 use mathlib.Core.List.{List, [], _∷_}
 use mathlib.Core.Logic.{_⊎_, inl, inr}
@@ -17,10 +17,11 @@ use Rattle.rules.specs.Sides.{Rule, bids, asks}
 use Rattle.rules.specs.declared.price.Quote.{Quote}
 use Rattle.matching.specs.Looking.{Books, best-in, trade-of, pair, either-pair, pair-in, paired, pair-step, look-step, standing-in, looked, Looks}
 use Rattle.matching.specs.Matching.{at-or-ahead}
+use Rattle.matching.specs.Trades.{Step}
 use Rattle.matching.specs.declared.pair.Pair.{Pair}
 use Rattle.matching.specs.declared.trade.Trade.{Trade}
-use Rattle.matching.proofs.Fronts.{none-some, some-same, sound-shares, taken-all, taken-least}
-use Rattle.matching.proofs.Going.{Progress, progress-none, progress-more, progress-state, progress-count, progress-list}
+use Rattle.matching.proofs.Fronts.{none-some, some-same, sound-shares, taken-all, taken-least, taken-sound}
+use Rattle.matching.proofs.Going.{steps-but-one, Progress, progress-none, progress-more, progress-state, progress-count, progress-list}
 
 kept-some : {X : Type 0} (b : Bool) (x y : X) → cond b (Some x) None ≡ Some y → x ≡ y
 kept-some true x y e = some-same e
@@ -98,3 +99,32 @@ module _ (increment : ℕ) (away : Quote) where
         count-is = progress-count (look-step increment away) (standing-in start) start list books listed count (l .so-far) stop;
         list-is = progress-list (look-step increment away) (standing-in start) start list books listed count (l .so-far) stop;
       }
+
+  pub paired-sound : (p : Pair) (b : Bool) (books : Books) → AllKept books → AllSound (cond b (books .bids) (taken (books .bids) (p .trade .shares) .list)) × AllSound (cond b (taken (books .asks) (p .trade .shares) .list) (books .asks)) × AllSound (cond b (taken (books .dark-bids) (p .trade .shares) .list) (books .dark-bids)) × AllSound (cond b (books .dark-asks) (taken (books .dark-asks) (p .trade .shares) .list))
+  paired-sound p true books k = (k .0, taken-sound (books .asks) (p .trade .shares) (k .1), taken-sound (books .dark-bids) (p .trade .shares) (k .2), k .3)
+  paired-sound p false books k = (taken-sound (books .bids) (p .trade .shares) (k .0), k .1, k .2, taken-sound (books .dark-asks) (p .trade .shares) (k .3))
+
+  look-falls : (books : Books) (o : Option Pair) (s : Step Books) → pair-in increment away books ≡ o → pair-step books o ≡ Some s → AllKept books → AllKept (s .after) × (standing-in (s .after) < standing-in books)
+  look-falls books None s is step kept = absurd (none-some step)
+  look-falls books (Some p) s is step kept =
+      subst (λ r. AllKept (r .after) × (standing-in (r .after) < standing-in books)) (some-same step)
+      (paired-sound p (p .sale) books kept, paired-fewer books p is kept)
+
+  pair-two : (rule : Rule) (best : Quote) (displayed dark : List Standing) (t : Trade) → pair rule increment best displayed dark ≡ Some t → 2 ≤ length displayed + length dark
+  pair-two rule best [] dark t is = absurd (none-some is)
+  pair-two rule best (d ∷ ds) [] t is = absurd (none-some is)
+  pair-two rule best (d ∷ ds) (k ∷ ks) t is = omega arith
+
+  look-two : (books : Books) (o : Option Pair) (s : Step Books) → pair-in increment away books ≡ o → pair-step books o ≡ Some s → 2 ≤ standing-in books
+  look-two books None s is step = absurd (none-some step)
+  look-two books (Some p) s is step =
+      elim (either (pair bids increment (best-in away books) (books .asks) (books .dark-bids)) (pair asks increment (best-in away books) (books .bids) (books .dark-asks)) p is) [
+        | inl h ↦ omega (arith, pair-two bids (best-in away books) (books .asks) (books .dark-bids) (p .trade) (h .0))
+        | inr h ↦ omega (arith, pair-two asks (best-in away books) (books .bids) (books .dark-asks) (p .trade) (h .0))
+      ]
+
+  -- looking over makes at least one trade fewer than orders stand
+  pub looked-but-one : (books : Books) → AllKept books → 0 < length (looked increment away books .trades) → length (looked increment away books .trades) < standing-in books
+  looked-but-one books kept =
+      steps-but-one (look-step increment away) AllKept standing-in (λ x s is. look-falls x (pair-in increment away x) s refl is)
+      (λ x s is. look-two x (pair-in increment away x) s refl is) (standing-in books) books kept
