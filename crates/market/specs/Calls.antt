@@ -242,9 +242,12 @@ halted s =
     unless (first-checked s (check (not-halted (s .phase)) WrongPhase None)) s
     record { answer = Ok tt; state = with-phase s Halted; trades = [] }
 
+abbrev pub resume-refusal : State → (n : ℕ) → Option Refusal
+resume-refusal s n = first-checked s (check (not (not-halted (s .phase))) WrongPhase (list-checked s n))
+
 abbrev pub resumed : State → (n : ℕ) → Done ℕ
 resumed s n =
-    unless (first-checked s (check (not (not-halted (s .phase))) WrongPhase (list-checked s n))) s
+    unless (resume-refusal s n) s
     (then-look (with-phase s Open) (λ k. k))
 
 -- Questions

@@ -4,3 +4,4 @@ pub mod Sets
 pub mod Placement
 pub mod Calls
 pub mod Handling
+pub mod Bounds

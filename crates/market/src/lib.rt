@@ -2,6 +2,7 @@
 // docs/RULES.md, "Calls, phases and questions", has what each call does.
 pub mod answers;
 pub mod book_set;
+pub mod bounds;
 pub mod phase;
 mod quotes;
 mod steps;
