@@ -1,5 +1,6 @@
 // Matching an entry with the standing orders of the other side.
 ghost use mathlib.Core.Path.{_≡_};
+ghost use lib.ListN.{set};
 ghost use Rattle.matching.specs.Matching.{matched, trade-with, displayed-after, dark-after, Leaves};
 use crate::candidate::Around;
 use crate::candidate::Candidate;
@@ -22,17 +23,25 @@ fn trade_with(active: &Entry, candidate: Candidate, shares: u32) -> Trade
     }
 }
 
-// Takes the shares of a trade from the front of the book that it names.
-fn take_traded<D: Book, K: Book>(trade: Trade, displayed: &mut D, dark: &mut K)
+// Takes the shares of a trade from the front of the book that it names, and writes its record.
+fn make_trade<D: Book, K: Book>(
+    trade: Trade,
+    displayed: &mut D,
+    dark: &mut K,
+    list: &mut [Trade],
+    at: usize,
+)
     ensures displayed { λ _. ⌜ D·Book .orders (now (displayed .exit)) ≡ displayed-after trade (D·Book .orders (now (displayed .entry))) ⌝ }
     ensures dark { λ _. ⌜ K·Book .orders (now (dark .exit)) ≡ dark-after trade (K·Book .orders (now (dark .entry))) ⌝ }
     ensures places { λ _. ⌜ (D·Book .room (now (displayed .exit)) ≡ D·Book .room (now (displayed .entry))) × (K·Book .room (now (dark .exit)) ≡ K·Book .room (now (dark .entry))) ⌝ }
+    ensures list { λ _. ⌜ now (list .exit) ≡ set (now (list .entry)) at trade ⌝ }
 {
     if trade.dark {
         let _ = dark.take(trade.shares);
     } else {
         let _ = displayed.take(trade.shares);
     }
+    write_trade(list, at, trade);
 }
 
 // What matching leaves: the shares of the entry that are still open, and how many trades it made.
@@ -57,8 +66,7 @@ pub fn match_entry<D: Book, K: Book<Side = D::Side>>(
     let mut trades = 0;
     while let Some(candidate) = next_candidate(active, around, displayed, dark, shares) {
         let trade = trade_with(active, candidate, shares);
-        take_traded(trade, displayed, dark);
-        write_trade(list, trades, trade);
+        make_trade(trade, displayed, dark, list, trades);
         shares -= trade.shares;
         trades += 1;
     }

@@ -1,5 +1,6 @@
 // Looking over the books: a displayed order and a dark one against it, whose price has become a better price.
 ghost use mathlib.Core.Path.{_≡_};
+ghost use lib.ListN.{set};
 ghost use Rattle.books.specs.Lists.{taken};
 ghost use Rattle.matching.specs.Looking.{Books, pair, pair-in, paired, looked, Looks};
 use crate::candidate::at_or_ahead;
@@ -80,22 +81,32 @@ fn take_paired<D: Book, K: Book>(shares: u32, displayed: &mut D, dark: &mut K)
     let _ = dark.take(shares);
 }
 
-// Trades a pair: from the asks and the dark bids, or from the bids and the dark asks.
+// Trades a pair, from the asks and the dark bids or from the bids and the dark asks, and writes its record.
 fn trade_pair<
     DB: Book<Side = Bids>,
     DA: Book<Side = Asks>,
     KB: Book<Side = Bids>,
     KA: Book<Side = Asks>,
->(pair: Pair, bids: &mut DB, asks: &mut DA, dark_bids: &mut KB, dark_asks: &mut KA)
+>(
+    pair: Pair,
+    bids: &mut DB,
+    asks: &mut DA,
+    dark_bids: &mut KB,
+    dark_asks: &mut KA,
+    list: &mut [Trade],
+    at: usize,
+)
     ensures books { λ _. ⌜ _≡_ {A = Books} (record { bids = DB·Book .orders (now (bids .exit)); asks = DA·Book .orders (now (asks .exit)); dark-bids = KB·Book .orders (now («dark_bids» .exit)); dark-asks = KA·Book .orders (now («dark_asks» .exit)) }) (paired pair (record { bids = DB·Book .orders (now (bids .entry)); asks = DA·Book .orders (now (asks .entry)); dark-bids = KB·Book .orders (now («dark_bids» .entry)); dark-asks = KA·Book .orders (now («dark_asks» .entry)) })) ⌝ }
     ensures displayed_places { λ _. ⌜ (DB·Book .room (now (bids .exit)) ≡ DB·Book .room (now (bids .entry))) × (DA·Book .room (now (asks .exit)) ≡ DA·Book .room (now (asks .entry))) ⌝ }
     ensures dark_places { λ _. ⌜ (KB·Book .room (now («dark_bids» .exit)) ≡ KB·Book .room (now («dark_bids» .entry))) × (KA·Book .room (now («dark_asks» .exit)) ≡ KA·Book .room (now («dark_asks» .entry))) ⌝ }
+    ensures list { λ _. ⌜ now (list .exit) ≡ set (now (list .entry)) at (pair .trade) ⌝ }
 {
     if pair.sale {
         take_paired(pair.trade.shares, asks, dark_bids);
     } else {
         take_paired(pair.trade.shares, bids, dark_asks);
     }
+    write_trade(list, at, pair.trade);
 }
 
 // Trades pair after pair until none is left, writes the trades to the front of the list, and answers how many they are.
@@ -119,8 +130,7 @@ pub fn look_over<
 {
     let mut trades = 0;
     while let Some(pair) = next_pair(increment, away, bids, asks, dark_bids, dark_asks) {
-        trade_pair(pair, bids, asks, dark_bids, dark_asks);
-        write_trade(list, trades, pair.trade);
+        trade_pair(pair, bids, asks, dark_bids, dark_asks, list, trades);
         trades += 1;
     }
     trades

@@ -24,9 +24,9 @@ loop-candidate-again g c =
     let scene : Scene = record { displayed = g .D·Book .orders (c .loop-candidate .displayed); dark = g .K·Book .orders (c .loop-candidate .dark); shares = c .loop-candidate .shares } in (
       turning-more (g .Side·Side .rule) (c .args .active .now) (c .args .around .now) scene (c .in-Some .candidate) _ (sym (c .in-Some .ensures tt))
           (g .D·Book·met .kept (c .loop-candidate .displayed) .2) (g .K·Book·met .kept (c .loop-candidate .dark) .2) (c .trade-with-trade .ensures)
-          _ _ _ _ _ _ _ (c .loop-candidate .inv .0) (c .take-traded .ensures .displayed) (c .take-traded .ensures .dark) (c .write-trade .ensures),
-      c .take-traded .ensures .places .0 ∙ c .loop-candidate .inv .1,
-      c .take-traded .ensures .places .1 ∙ c .loop-candidate .inv .2,
+          _ _ _ _ _ _ _ (c .loop-candidate .inv .0) (c .make-trade .ensures .displayed) (c .make-trade .ensures .dark) (c .make-trade .ensures .list),
+      c .make-trade .ensures .places .0 ∙ c .loop-candidate .inv .1,
+      c .make-trade .ensures .places .1 ∙ c .loop-candidate .inv .2,
     )
 
 pub returns : need.returns

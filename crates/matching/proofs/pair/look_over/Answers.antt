@@ -33,7 +33,7 @@ loop-pair-again g c =
         g .DA·Book·met .kept (c .loop-pair .asks) .2,
         g .KB·Book·met .kept (c .loop-pair .dark-bids) .2,
         g .KA·Book·met .kept (c .loop-pair .dark-asks) .2,
-      ) (e .books) (c .write-trade .ensures),
+      ) (e .books) (e .list),
       e .displayed-places .0 ∙ i .1,
       e .displayed-places .1 ∙ i .2,
       e .dark-places .0 ∙ i .3,
