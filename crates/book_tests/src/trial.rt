@@ -185,6 +185,7 @@ impl Trial {
         self.drain(book)
     }
 
+    // The largest book is crowded first.
     fn go<B: Book>(&mut self, book: &mut B) -> Result<(), Failure> {
         if self.model.places() == 4096 {
             self.crowd(book)?;
