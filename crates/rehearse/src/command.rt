@@ -84,15 +84,6 @@ fn parse_book(field: &[u8]) -> Option<BookKind> {
     Some(BookKind::Chained(records as usize))
 }
 
-fn parse_plan(bids: &[u8], asks: &[u8], dark_bids: &[u8], dark_asks: &[u8]) -> Option<Command> {
-    Some(Command::Books(Plan {
-        bids: parse_book(bids)?,
-        asks: parse_book(asks)?,
-        dark_bids: parse_book(dark_bids)?,
-        dark_asks: parse_book(dark_asks)?,
-    }))
-}
-
 fn parse_form(side: SideName, price: &[u8], shares: &[u8], marks: &[u8]) -> Option<Call> {
     let limit = read_number(price)?;
     let shares = read_number(shares)?;
@@ -179,16 +170,35 @@ fn parse_three(word: &[u8], first: &[u8], second: &[u8], third: &[u8]) -> Option
     Some(Command::Call(call?))
 }
 
+fn parse_four(
+    word: &[u8],
+    bids: &[u8],
+    asks: &[u8],
+    dark_bids: &[u8],
+    dark_asks: &[u8],
+) -> Option<Command> {
+    let b"books" = word else {
+        return None;
+    };
+    Some(Command::Books(Plan {
+        bids: parse_book(bids)?,
+        asks: parse_book(asks)?,
+        dark_bids: parse_book(dark_bids)?,
+        dark_asks: parse_book(dark_asks)?,
+    }))
+}
+
 // None where the line breaks a rule.
 pub fn parse(fields: &[&[u8]]) -> Option<Command> {
-    match fields {
-        [word] => parse_alone(word),
-        [word, first] => parse_one(word, first),
-        [word, first, second] => parse_two(word, first, second),
-        [word, first, second, third] => parse_three(word, first, second, third),
-        [b"books", bids, asks, dark_bids, dark_asks] => {
-            parse_plan(bids, asks, dark_bids, dark_asks)
-        }
+    let [word, rest @ ..] = fields else {
+        return None;
+    };
+    match rest {
+        [] => parse_alone(word),
+        [first] => parse_one(word, first),
+        [first, second] => parse_two(word, first, second),
+        [first, second, third] => parse_three(word, first, second, third),
+        [bids, asks, dark_bids, dark_asks] => parse_four(word, bids, asks, dark_bids, dark_asks),
         _ => None,
     }
 }
