@@ -7,17 +7,9 @@ use rules::refusal::Refusal;
 use rules::sheet::Class;
 use std::fmt;
 
+// What a market answers to a call or a question.
 #[derive(Clone, Copy)]
-pub enum Answer {
-    Malformed,
-    NoDay,
-    NoMarket,
-    Refused(Refusal),
-    Day(Class),
-    // the places of the displayed bids, the displayed asks, the dark bids and the dark asks
-    Books(usize, usize, usize, usize),
-    Trades(usize),
-    Sheet(Class),
+pub enum Taken {
     Entered(Entered),
     Cancelled(Cancelled),
     Quoted(usize),
@@ -30,14 +22,31 @@ pub enum Answer {
     Open(Option<u32>),
 }
 
+#[derive(Clone, Copy)]
+pub enum Answer {
+    Malformed,
+    NoDay,
+    NoMarket,
+    Refused(Refusal),
+    Day(Class),
+    // the places of the displayed bids, the displayed asks, the dark bids and the dark asks
+    Books(usize, usize, usize, usize),
+    Trades(usize),
+    Sheet(Class),
+    Taken(Taken),
+}
+
 impl Answer {
     // How many trades follow the answer.
     pub fn trades(&self) -> usize {
-        match *self {
-            Answer::Entered(entered) => entered.trades,
-            Answer::Cancelled(cancelled) => cancelled.trades,
-            Answer::Aside(aside) => aside.trades,
-            Answer::Quoted(trades) | Answer::Resumed(trades) => trades,
+        let Answer::Taken(taken) = *self else {
+            return 0;
+        };
+        match taken {
+            Taken::Entered(entered) => entered.trades,
+            Taken::Cancelled(cancelled) => cancelled.trades,
+            Taken::Aside(aside) => aside.trades,
+            Taken::Quoted(trades) | Taken::Resumed(trades) => trades,
             _ => 0,
         }
     }
@@ -90,6 +99,23 @@ fn show_or_none<W: fmt::Write>(
     }
 }
 
+fn show_taken<W: fmt::Write>(taken: Taken, f: &mut fmt::Formatter<W>) -> fmt::Result {
+    match taken {
+        Taken::Entered(entered) => show_entered(entered, f),
+        Taken::Cancelled(cancelled) => {
+            show_count("cancelled", cancelled.shares, cancelled.trades, f)
+        }
+        Taken::Quoted(trades) => write!(f, "quoted trades {trades}"),
+        Taken::Aside(aside) => show_count("aside", aside.count, aside.trades, f),
+        Taken::Halted => write!(f, "halted"),
+        Taken::Resumed(trades) => write!(f, "resumed trades {trades}"),
+        Taken::Best(price) => show_or_none("best", price, f),
+        Taken::Front(price) => show_or_none("front", price, f),
+        Taken::Shares(sum) => write!(f, "shares {sum}"),
+        Taken::Open(shares) => show_or_none("open", shares, f),
+    }
+}
+
 pub impl fmt::Display for Answer as AnswerDisplay {
     fn fmt<W: fmt::Write>(&self, f: &mut fmt::Formatter<W>) -> fmt::Result {
         match *self {
@@ -103,18 +129,7 @@ pub impl fmt::Display for Answer as AnswerDisplay {
             }
             Answer::Trades(records) => write!(f, "trades {records}"),
             Answer::Sheet(class) => show_class("sheet", class, f),
-            Answer::Entered(entered) => show_entered(entered, f),
-            Answer::Cancelled(cancelled) => {
-                show_count("cancelled", cancelled.shares, cancelled.trades, f)
-            }
-            Answer::Quoted(trades) => write!(f, "quoted trades {trades}"),
-            Answer::Aside(aside) => show_count("aside", aside.count, aside.trades, f),
-            Answer::Halted => write!(f, "halted"),
-            Answer::Resumed(trades) => write!(f, "resumed trades {trades}"),
-            Answer::Best(price) => show_or_none("best", price, f),
-            Answer::Front(price) => show_or_none("front", price, f),
-            Answer::Shares(sum) => write!(f, "shares {sum}"),
-            Answer::Open(shares) => show_or_none("open", shares, f),
+            Answer::Taken(taken) => show_taken(taken, f),
         }
     }
 }

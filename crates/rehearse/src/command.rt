@@ -73,14 +73,6 @@ fn parse_price(field: &[u8]) -> Option<Option<u32>> {
     }
 }
 
-fn parse_list(field: &[u8]) -> Option<Command> {
-    let records = read_number(field)? as usize;
-    if records > LIST {
-        return None;
-    }
-    Some(Command::Trades(records))
-}
-
 fn parse_book(field: &[u8]) -> Option<BookKind> {
     if let b"packed" = field {
         return Some(BookKind::Packed);
@@ -90,15 +82,6 @@ fn parse_book(field: &[u8]) -> Option<BookKind> {
         return None;
     }
     Some(BookKind::Chained(records as usize))
-}
-
-fn parse_plan(bids: &[u8], asks: &[u8], dark_bids: &[u8], dark_asks: &[u8]) -> Option<Command> {
-    Some(Command::Books(Plan {
-        bids: parse_book(bids)?,
-        asks: parse_book(asks)?,
-        dark_bids: parse_book(dark_bids)?,
-        dark_asks: parse_book(dark_asks)?,
-    }))
 }
 
 fn parse_form(side: SideName, price: &[u8], shares: &[u8], marks: &[u8]) -> Option<Call> {
@@ -123,49 +106,99 @@ fn parse_quote(marketplace: &[u8], side: &[u8], price: &[u8]) -> Option<Call> {
     })
 }
 
-// A word and one field.
-fn parse_short(word: &[u8], field: &[u8]) -> Option<Call> {
+// A word alone.
+fn parse_alone(word: &[u8]) -> Option<Command> {
     match word {
-        b"C" => Some(Call::Cancel(read_number(field)?)),
-        b"aside" => Some(Call::Aside(read_number(field)?)),
-        b"best" => Some(Call::Best(parse_side(field)?)),
-        b"front" => Some(Call::Front(parse_side(field)?)),
-        b"open" => Some(Call::Open(read_number(field)?)),
+        b"halt" => Some(Command::Call(Call::Halt)),
+        b"resume" => Some(Command::Call(Call::Resume)),
         _ => None,
     }
 }
 
-fn parse_call(fields: &[&[u8]]) -> Option<Call> {
-    match fields {
-        [b"B", price, shares, marks] => parse_form(SideName::Bid, price, shares, marks),
-        [b"S", price, shares, marks] => parse_form(SideName::Ask, price, shares, marks),
-        [b"quote", marketplace, side, price] => parse_quote(marketplace, side, price),
-        [b"shares", side, price] => Some(Call::Shares {
-            side: parse_side(side)?,
-            price: read_number(price)?,
-        }),
-        [b"halt"] => Some(Call::Halt),
-        [b"resume"] => Some(Call::Resume),
-        [word, field] => parse_short(word, field),
+fn parse_numbered(word: &[u8], number: u32) -> Option<Command> {
+    match word {
+        b"C" => Some(Command::Call(Call::Cancel(number))),
+        b"aside" => Some(Command::Call(Call::Aside(number))),
+        b"open" => Some(Command::Call(Call::Open(number))),
+        b"trades" if number as usize <= LIST => Some(Command::Trades(number as usize)),
         _ => None,
     }
+}
+
+fn parse_sided(word: &[u8], side: SideName) -> Option<Command> {
+    match word {
+        b"best" => Some(Command::Call(Call::Best(side))),
+        b"front" => Some(Command::Call(Call::Front(side))),
+        _ => None,
+    }
+}
+
+// A word with a number or a side.
+fn parse_one(word: &[u8], field: &[u8]) -> Option<Command> {
+    match read_number(field) {
+        Some(number) => parse_numbered(word, number),
+        None => parse_sided(word, parse_side(field)?),
+    }
+}
+
+fn parse_two(word: &[u8], first: &[u8], second: &[u8]) -> Option<Command> {
+    let number = read_number(second)?;
+    match word {
+        b"day" => Some(Command::Day {
+            closing: read_number(first)?,
+            last: number,
+        }),
+        b"sheet" => Some(Command::Sheet {
+            closing: read_number(first)?,
+            last: number,
+        }),
+        b"shares" => Some(Command::Call(Call::Shares {
+            side: parse_side(first)?,
+            price: number,
+        })),
+        _ => None,
+    }
+}
+
+fn parse_three(word: &[u8], first: &[u8], second: &[u8], third: &[u8]) -> Option<Command> {
+    let call = match word {
+        b"B" => parse_form(SideName::Bid, first, second, third),
+        b"S" => parse_form(SideName::Ask, first, second, third),
+        b"quote" => parse_quote(first, second, third),
+        _ => None,
+    };
+    Some(Command::Call(call?))
+}
+
+fn parse_four(
+    word: &[u8],
+    bids: &[u8],
+    asks: &[u8],
+    dark_bids: &[u8],
+    dark_asks: &[u8],
+) -> Option<Command> {
+    let b"books" = word else {
+        return None;
+    };
+    Some(Command::Books(Plan {
+        bids: parse_book(bids)?,
+        asks: parse_book(asks)?,
+        dark_bids: parse_book(dark_bids)?,
+        dark_asks: parse_book(dark_asks)?,
+    }))
 }
 
 // None where the line breaks a rule.
 pub fn parse(fields: &[&[u8]]) -> Option<Command> {
-    match fields {
-        [b"day", closing, last] => Some(Command::Day {
-            closing: read_number(closing)?,
-            last: read_number(last)?,
-        }),
-        [b"sheet", closing, last] => Some(Command::Sheet {
-            closing: read_number(closing)?,
-            last: read_number(last)?,
-        }),
-        [b"trades", records] => parse_list(records),
-        [b"books", bids, asks, dark_bids, dark_asks] => {
-            parse_plan(bids, asks, dark_bids, dark_asks)
-        }
-        _ => Some(Command::Call(parse_call(fields)?)),
+    let [word, rest @ ..] = fields else {
+        return None;
+    };
+    match rest {
+        [] => parse_alone(word),
+        [first] => parse_one(word, first),
+        [first, second] => parse_two(word, first, second),
+        [first, second, third] => parse_three(word, first, second, third),
+        [bids, asks, dark_bids, dark_asks] => parse_four(word, bids, asks, dark_bids, dark_asks),
+        _ => None,
     }
 }

@@ -113,12 +113,12 @@ fn with_books<
     dark_bids: KB,
     dark_asks: KA,
 ) -> io::Result<Option<Command>> {
-    desk.say(Answer::Books(
+    let opened = Answer::Books(
         bids.places(),
         asks.places(),
         dark_bids.places(),
         dark_asks.places(),
-    ))?;
+    );
     let books = FourBooks {
         bids,
         asks,
@@ -126,5 +126,5 @@ fn with_books<
         dark_asks,
     };
     let mut market = Market::open(&sheets.day, books);
-    play(desk, sheets, &mut market)
+    play(desk, sheets, &mut market, opened)
 }

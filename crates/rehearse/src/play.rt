@@ -1,5 +1,6 @@
 // One market, line by line.
 use crate::answer::Answer;
+use crate::answer::Taken;
 use crate::command::Call;
 use crate::command::Command;
 use crate::desk::Desk;
@@ -32,56 +33,58 @@ fn ask<V: Venue>(
     sheet: &DaySheet,
     list: &mut [Trade],
     call: Call,
-) -> Result<Answer, Refusal> {
+) -> Result<Taken, Refusal> {
     Ok(
         match call {
-            Call::Enter(terms) => Answer::Entered(enter(market, sheet, list, terms)?),
-            Call::Cancel(number) => Answer::Cancelled(market.cancel(number, list)?),
+            Call::Enter(terms) => Taken::Entered(enter(market, sheet, list, terms)?),
+            Call::Cancel(number) => Taken::Cancelled(market.cancel(number, list)?),
             Call::Quote {
                 marketplace,
                 side,
                 price,
-            } => Answer::Quoted(market.quote(marketplace, side, price, list)?),
-            Call::Aside(marketplace) => Answer::Aside(market.set_aside(marketplace, list)?),
+            } => Taken::Quoted(market.quote(marketplace, side, price, list)?),
+            Call::Aside(marketplace) => Taken::Aside(market.set_aside(marketplace, list)?),
             Call::Halt => {
                 market.halt()?;
-                Answer::Halted
+                Taken::Halted
             }
-            Call::Resume => Answer::Resumed(market.resume(list)?),
-            Call::Best(side) => Answer::Best(market.best(side)),
-            Call::Front(side) => Answer::Front(market.front(side)),
-            Call::Shares { side, price } => Answer::Shares(market.shares_at(side, price)),
-            Call::Open(number) => Answer::Open(market.open_shares(number)),
+            Call::Resume => Taken::Resumed(market.resume(list)?),
+            Call::Best(side) => Taken::Best(market.best(side)),
+            Call::Front(side) => Taken::Front(market.front(side)),
+            Call::Shares { side, price } => Taken::Shares(market.shares_at(side, price)),
+            Call::Open(number) => Taken::Open(market.open_shares(number)),
         },
     )
 }
 
 fn call<V: Venue>(market: &mut V, sheet: &DaySheet, list: &mut [Trade], call: Call) -> Answer {
     match ask(market, sheet, list, call) {
-        Ok(answer) => answer,
+        Ok(taken) => Answer::Taken(taken),
         Err(refusal) => Answer::Refused(refusal),
     }
 }
 
 // Plays the market until a line ends it, and answers that line: another day, other books, or none at the end of the
-// input.
+// input. What is answered to the line that made the market comes first.
 pub fn play<V: Venue>(
     desk: &mut Desk,
     sheets: &mut Sheets,
     market: &mut V,
+    opened: Answer,
 ) -> io::Result<Option<Command>> {
+    let mut answer = opened;
     for _ in 0..u64::MAX {
+        desk.say(answer)?;
         let Some(command) = desk.read()? else {
             break;
         };
-        let answer = match command {
+        answer = match command {
             Command::Day { .. } | Command::Books(_) => return Ok(Some(command)),
             Command::Malformed => Answer::Malformed,
             Command::Trades(records) => desk.lend_only(records),
             Command::Sheet { closing, last } => sheets.replace(closing, last),
             Command::Call(asked) => call(market, &sheets.forms, desk.list(), asked),
         };
-        desk.say(answer)?;
     }
     Ok(None)
 }
