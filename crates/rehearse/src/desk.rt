@@ -61,9 +61,13 @@ impl Desk {
         })
     }
 
-    // The next line that has an answer; none at the end of the input.
+    // The next line that has an answer; none at the end of the input. Before it waits for input, what was answered is
+    // shown: whoever types sees each answer, and a long file is still written in large pieces.
     pub fn read(&mut self) -> io::Result<Option<Command>> {
         for _ in 0..u64::MAX {
+            if self.input.buffer().is_empty() {
+                self.output.flush()?;
+            }
             self.line.clear();
             if self.input.read_until(b'\n', &mut self.line)? == 0 {
                 break;
