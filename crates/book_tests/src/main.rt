@@ -1,4 +1,6 @@
 // Drives each kind of book beside a plain model, on both sides, and compares every answer.
+#![tactic(auto)]
+
 mod answer;
 mod draws;
 mod model;

@@ -1,4 +1,6 @@
 // What a book means, and the packed book. docs/RULES.md, "Books", states the meaning.
+#![tactic(auto)]
+
 pub mod book;
 pub mod packed;
 pub mod priority;

@@ -1,4 +1,6 @@
 // The worked cases: a table that the check computes, and tests of the code on the same numbers.
+#![tactic(auto)]
+
 ghost use Rattle.std.specs.Prelude.{◌≡◌, true, length};
 ghost use Rattle.cases.specs.Scenarios.{all_come_out, scenarios};
 ghost use Rattle.cases.specs.Table.{all_hold, table};

@@ -1,5 +1,7 @@
 // One market for one security and one day: quotes and set-asides, phases, the calls and the questions.
 // docs/RULES.md, "Calls, phases and questions", has what each call does.
+#![tactic(auto)]
+
 pub mod answers;
 pub mod book_set;
 pub mod bounds;

@@ -1,5 +1,7 @@
 // Matching an entry, and looking over the books: written once for both sides and for every book.
 // docs/RULES.md, "Matching an entry" and "Looking over the books", has the steps.
+#![tactic(auto)]
+
 pub mod candidate;
 pub mod entry;
 pub mod pair;

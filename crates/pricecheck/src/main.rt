@@ -1,4 +1,6 @@
 // Settles by typing which size stops needing a better price, and what a better price is: one answer for each line typed.
+#![tactic(auto)]
+
 mod answer;
 mod command;
 

@@ -1,4 +1,6 @@
 // Plays a rehearsal: each line of a member or of the operator is answered. docs/REHEARSAL.md has the text of both.
+#![tactic(auto)]
+
 mod answer;
 mod command;
 mod desk;

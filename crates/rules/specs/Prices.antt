@@ -1,5 +1,5 @@
 -- Which prices and quantities are valid. A price is a whole number of quarter cents.
-use Rattle.std.specs.Prelude.{◌≡◌, ℕ, ◌%◌, Bool, ◌&&◌, ◌==◌, nat_le}
+use Rattle.std.specs.Prelude.{ℕ, ◌%◌, Bool, ◌&&◌, ◌==◌, nat_le}
 
 abbrev pub highest_price : ℕ
 highest_price = 4000000

@@ -1,5 +1,5 @@
 -- Which number each refusal has, and what a call answers that can be refused.
-use Rattle.std.specs.Prelude.{◌≡◌, ℕ, Bool, cond, Some, None, Ok, Err, Option, Result}
+use Rattle.std.specs.Prelude.{ℕ, Bool, cond, Some, None, Ok, Err, Option, Result}
 use Rattle.rules.specs.declared.refusal.Refusal.{Refusal}
 use Rattle.rules.specs.declared.refusal.Refusal.TheVariants.{BadClosingPrice, NoOrderNumbers, BadPrice, BadQuantity, BadOrder, BookFull, BadTake, NotStanding, MarketClosed, MarketHalted, OtherClass, NumbersIssued, OwnBookFull, NoMarketplace, AlreadyAside, BadQuotePrice, WrongPhase, ShortTradeList}
 

@@ -4,16 +4,16 @@ use Rattle.books.specs.Arranging.{arranged}
 use Rattle.books.specs.Lists.{front_of}
 use Rattle.books.specs.ArrangingLemmas.{front_more}
 use Rattle.books.proofs.packed.arrivals.Arrivals.front_index.Goals as goal
-use Rattle.books.proofs.packed.arrivals.Arrivals.front_index.Goals.{then-comes-first, else-comes-first}
+use Rattle.books.proofs.packed.arrivals.Arrivals.front_index.Goals.{then-comes_first, else-comes_first}
 
 pub loop-i-preserved : goal.loop-i-preserved
 loop-i-preserved g c =
     let v = c.args.self.now in
     let e = front_more g.row.S-Side.rule v.spots c.loop-i.i c.loop-i.best (omega arith) c.loop-i.invariant.1 in
     elim c.if-comes-first.branch [
-      | then-comes-first w ↦
+      | then-comes_first w ↦
           (omega (arith, w.best_is), grind (arith, nat_tests, w.best_is, w.if-comes-first.true, c.comes-first.ensures))
-      | else-comes-first w ↦
+      | else-comes_first w ↦
           (omega (arith, w.best_is), grind (arith, nat_tests, w.best_is, w.if-comes-first.false, c.comes-first.ensures))
     ]
 
