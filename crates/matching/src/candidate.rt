@@ -70,7 +70,7 @@ pub fn best_against<S: Side>(around: &Around, front: Option<u32>) -> Quote
 
 // The front displayed order, within the bound and, unless the entry is directed, not behind the away best.
 fn displayed_candidate<D: Book>(active: &Entry, around: &Around, displayed: &D) -> Option<Standing>
-    ensures { result ≡ displayed_candidate Side-as-Side.rule active.now around.now (D.Book.orders displayed.now) }
+    ensures { result ≡ displayed_candidate D.Side.Side.rule active.now around.now (D.Book.orders displayed.now) }
 {
     let order = displayed.front()?;
     let away = around.away.on(D::Side::name());
@@ -90,7 +90,7 @@ fn dark_candidate<K: Book>(
     front: Option<u32>,
     dark: &K,
 ) -> Option<Standing>
-    ensures { result ≡ dark_candidate Side-as-Side.rule active.now around.now front (K.Book.orders dark.now) }
+    ensures { result ≡ dark_candidate K.Side.Side.rule active.now around.now front (K.Book.orders dark.now) }
 {
     let order = dark.front()?;
     let best = best_against::<K::Side>(around, front);
@@ -135,7 +135,7 @@ pub fn next_candidate<D: Book, K: Book<Side = D::Side>>(
     dark: &K,
     shares: u32,
 ) -> Option<Candidate>
-    ensures { result ≡ candidate D.Side.Side.rule active.now around.now (record { displayed = D.Book.orders displayed.entry.now; dark = K.Book.orders dark.now; shares = shares }) }
+    ensures { result ≡ candidate D.Side.Side.rule active.now around.now (record { displayed = D.Book.orders displayed.now; dark = K.Book.orders dark.now; shares = shares }) }
 {
     if shares == 0 {
         return None;

@@ -55,7 +55,7 @@ pub fn match_entry<D: Book, K: Book<Side = D::Side>>(
     dark: &mut K,
     list: &mut [Trade],
 ) -> Left
-    ensures leaves { Leaves (matched D.Side.Side.rule active.now around.now (record { displayed = D.Book.orders displayed.entry.now; dark = K.Book.orders dark.old; shares = active.now.shares })) (D.Book.orders displayed.exit.now) (K.Book.orders dark.new) list.old list.new result }
+    ensures leaves { Leaves (matched D.Side.Side.rule active.now around.now (record { displayed = D.Book.orders displayed.old; dark = K.Book.orders dark.old; shares = active.now.shares })) (D.Book.orders displayed.new) (K.Book.orders dark.new) list.old list.new result }
     ensures places { (D.Book.room displayed.new ≡ D.Book.room displayed.old) × (K.Book.room dark.new ≡ K.Book.room dark.old) }
 {
     let mut shares = active.shares;

@@ -47,7 +47,7 @@ fn next_pair<
     KB: Book<Side = Bids>,
     KA: Book<Side = Asks>,
 >(increment: u32, away: Quote, bids: &DB, asks: &DA, dark_bids: &KB, dark_asks: &KA) -> Option<Pair>
-    ensures { result ≡ pair_in increment away (record { bids = DB.Book.orders bids.entry.now; asks = DA.Book.orders asks.now; dark_bids = KB.Book.orders dark_bids.now; dark_asks = KA.Book.orders dark_asks.now }) }
+    ensures { result ≡ pair_in increment away (record { bids = DB.Book.orders bids.now; asks = DA.Book.orders asks.now; dark_bids = KB.Book.orders dark_bids.now; dark_asks = KA.Book.orders dark_asks.now }) }
 {
     let ours = Quote {
         bid: front_price(bids),
@@ -89,7 +89,7 @@ fn trade_pair<
     list: &mut [Trade],
     at: usize,
 )
-    ensures books { ◌≡◌ {A = Books} (record { bids = DB.Book.orders bids.exit.now; asks = DA.Book.orders asks.new; dark_bids = KB.Book.orders dark_bids.new; dark_asks = KA.Book.orders dark_asks.new }) (paired pair (record { bids = DB.Book.orders bids.entry.now; asks = DA.Book.orders asks.old; dark_bids = KB.Book.orders dark_bids.old; dark_asks = KA.Book.orders dark_asks.old })) }
+    ensures books { ◌≡◌ {A = Books} (record { bids = DB.Book.orders bids.new; asks = DA.Book.orders asks.new; dark_bids = KB.Book.orders dark_bids.new; dark_asks = KA.Book.orders dark_asks.new }) (paired pair (record { bids = DB.Book.orders bids.old; asks = DA.Book.orders asks.old; dark_bids = KB.Book.orders dark_bids.old; dark_asks = KA.Book.orders dark_asks.old })) }
     ensures displayed_places { (DB.Book.room bids.new ≡ DB.Book.room bids.old) × (DA.Book.room asks.new ≡ DA.Book.room asks.old) }
     ensures dark_places { (KB.Book.room dark_bids.new ≡ KB.Book.room dark_bids.old) × (KA.Book.room dark_asks.new ≡ KA.Book.room dark_asks.old) }
     ensures list { list.new ≡ slice_set list.old at pair.trade }
@@ -117,7 +117,7 @@ pub fn look_over<
     dark_asks: &mut KA,
     list: &mut [Trade],
 ) -> usize
-    ensures looks { Looks (looked increment away (record { bids = DB.Book.orders bids.entry.now; asks = DA.Book.orders asks.old; dark_bids = KB.Book.orders dark_bids.old; dark_asks = KA.Book.orders dark_asks.old })) (record { bids = DB.Book.orders bids.exit.now; asks = DA.Book.orders asks.new; dark_bids = KB.Book.orders dark_bids.new; dark_asks = KA.Book.orders dark_asks.new }) list.old list.new result }
+    ensures looks { Looks (looked increment away (record { bids = DB.Book.orders bids.old; asks = DA.Book.orders asks.old; dark_bids = KB.Book.orders dark_bids.old; dark_asks = KA.Book.orders dark_asks.old })) (record { bids = DB.Book.orders bids.new; asks = DA.Book.orders asks.new; dark_bids = KB.Book.orders dark_bids.new; dark_asks = KA.Book.orders dark_asks.new }) list.old list.new result }
     ensures displayed_places { (DB.Book.room bids.new ≡ DB.Book.room bids.old) × (DA.Book.room asks.new ≡ DA.Book.room asks.old) }
     ensures dark_places { (KB.Book.room dark_bids.new ≡ KB.Book.room dark_bids.old) × (KA.Book.room dark_asks.new ≡ KA.Book.room dark_asks.old) }
 {

@@ -64,7 +64,7 @@ pub fn place<
     own_dark: &mut H,
     list: &mut [Trade],
 ) -> Ended
-    ensures places { Places (placed S.Side.rule T.Side.rule increment away (O.Book.room own.old) (H.Book.room own_dark.old) active.now (record { displayed = D.Book.orders displayed.entry.now; dark = K.Book.orders dark.old; own = O.Book.orders own.old; own_dark = H.Book.orders own_dark.old })) (record { displayed = D.Book.orders displayed.exit.now; dark = K.Book.orders dark.new; own = O.Book.orders own.new; own_dark = H.Book.orders own_dark.new }) list.old list.new result }
+    ensures places { Places (placed S.Side.rule T.Side.rule increment away (O.Book.room own.old) (H.Book.room own_dark.old) active.now (record { displayed = D.Book.orders displayed.old; dark = K.Book.orders dark.old; own = O.Book.orders own.old; own_dark = H.Book.orders own_dark.old })) (record { displayed = D.Book.orders displayed.new; dark = K.Book.orders dark.new; own = O.Book.orders own.new; own_dark = H.Book.orders own_dark.new }) list.old list.new result }
     ensures met_places { (D.Book.room displayed.new ≡ D.Book.room displayed.old) × (K.Book.room dark.new ≡ K.Book.room dark.old) }
     ensures own_places { (O.Book.room own.new ≡ O.Book.room own.old) × (H.Book.room own_dark.new ≡ H.Book.room own_dark.old) }
 {

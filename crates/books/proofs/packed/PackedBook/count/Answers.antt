@@ -7,4 +7,4 @@ use Rattle.books.proofs.packed.PackedBook.count.Goals as goal
 pub returns : goal.returns
 returns g c =
     let b = c.args.self.now in
-    omega (arith, length_arranged g.row.S-Side.rule (held b.arrivals), length_held b.arrivals b.size b.within)
+    omega (arith, length_arranged g.S.Side.rule (held b.arrivals), length_held b.arrivals b.size b.within)

@@ -7,9 +7,9 @@ returns-in-Some g c =
     let b = c.args.self.now in
     ap Some c.at.ensures ∙
     sym
-    (find_place g.row.S-Side.rule b.arrivals (b.size, b.within, b.sound, b.distinct) c.args.number c.in-Some.index
+    (find_place g.S.Side.rule b.arrivals (b.size, b.within, b.sound, b.distinct) c.args.number c.in-Some.index
     c.in-Some.ensures)
 
 pub returns-in-None : goal.returns-in-None
 returns-in-None g c =
-    sym (absent_arranged g.row.S-Side.rule c.args.self.now.arrivals c.args.number c.in-None.ensures)
+    sym (absent_arranged g.S.Side.rule c.args.self.now.arrivals c.args.number c.in-None.ensures)

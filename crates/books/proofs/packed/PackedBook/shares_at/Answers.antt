@@ -5,4 +5,4 @@ use Rattle.books.proofs.packed.PackedBook.shares_at.Goals as goal
 
 pub returns : goal.returns
 returns g c =
-    omega (arith, shares_arrange c.args.price g.row.S-Side.rule (held c.args.self.now.arrivals) [])
+    omega (arith, shares_arrange c.args.price g.S.Side.rule (held c.args.self.now.arrivals) [])

@@ -6,16 +6,16 @@ use Rattle.books.proofs.Outcomes.{taken_fit}
 use Rattle.books.specs.Spots.{Good, good_closed, good_less}
 use Rattle.books.proofs.packed.PackedBook.take.Goals as goal
 
-pub invariant-of-self : goal.invariant-of-self
-invariant-of-self g c =
+pub invariant_of-self : goal.invariant_of-self
+invariant_of-self g c =
     let b = c.args.self.now in
     let k =
-    subst Good (sym c.close-up.ensures.left)
+    subst Good (sym c.close_up.ensures.left)
     (good_closed b.arrivals (b.size, b.within, b.sound, b.distinct) c.in-Some.index c.in-Some.ensures.0) in
-    (k.0, (k.1, (k.2, (k.3, tt))))
+    record { size = k.0; within = k.1; sound = k.2; distinct = k.3 }
 
-pub invariant-of-self-else-shares-left-2 : goal.invariant-of-self-else-shares-left-2
-invariant-of-self-else-shares-left-2 g c =
+pub invariant_of-self-else-shares-left-2 : goal.invariant_of-self-else-shares-left-2
+invariant_of-self-else-shares-left-2 g c =
     let b = c.args.self.now in
     let s : c.at-left.result.shares ≡ (get_or b.arrivals.spots c.in-Some.index blank).shares =
     ap (λ o. o.shares) c.at-left.ensures in
@@ -23,13 +23,13 @@ invariant-of-self-else-shares-left-2 g c =
     subst Good (sym c.reduce.ensures)
     (good_less b.arrivals (b.size, b.within, b.sound, b.distinct) c.in-Some.index c.in-Some.ensures.0
     c.args.shares (omega arith)) in
-    (k.0, (k.1, (k.2, (k.3, tt))))
+    record { size = k.0; within = k.1; sound = k.2; distinct = k.3 }
 
 pub returns-then-shares-left-2 : goal.returns-then-shares-left-2
 returns-then-shares-left-2 g c =
     let b = c.args.self.now in
     let v = b.arrivals in
-    let rule = g.row.S-Side.rule in
+    let rule = g.S.Side.rule in
     let p = c.in-Some.ensures in
     let o = get_or v.spots c.in-Some.index blank in
     let s : c.at-left.result.shares ≡ o.shares = ap (λ o. o.shares) c.at-left.ensures in
@@ -37,7 +37,7 @@ returns-then-shares-left-2 g c =
     record {
       answer = sym (ap (λ r. r.answer) e);
       list =
-          ap (λ a. arranged rule (held a)) c.close-up.ensures.left ∙
+          ap (λ a. arranged rule (held a)) c.close_up.ensures.left ∙
           gone_front rule v (b.size, b.within, b.sound, b.distinct) g.met.S.Side.lawful c.in-Some.index p
           c.args.shares (omega arith) ∙
           sym (ap (λ r. r.list) e);
@@ -48,7 +48,7 @@ pub returns-else-shares-left-2 : goal.returns-else-shares-left-2
 returns-else-shares-left-2 g c =
     let b = c.args.self.now in
     let v = b.arrivals in
-    let rule = g.row.S-Side.rule in
+    let rule = g.S.Side.rule in
     let p = c.in-Some.ensures in
     let o = get_or v.spots c.in-Some.index blank in
     let s : c.at-left.result.shares ≡ o.shares = ap (λ o. o.shares) c.at-left.ensures in

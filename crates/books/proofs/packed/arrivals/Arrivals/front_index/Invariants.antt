@@ -7,4 +7,4 @@ use Rattle.books.proofs.packed.arrivals.Arrivals.front_index.Given as goal
 abbrev pub invariant-loop-i : goal.invariant-loop-i
 invariant-loop-i g l =
     (l.best < l.i) ×
-    (front_of (arranged g.row.S-Side.rule (take l.i l.self.spots)) ≡ Some (get_or l.self.spots l.best blank))
+    (front_of (arranged g.S.Side.rule (take l.i l.self.spots)) ≡ Some (get_or l.self.spots l.best blank))

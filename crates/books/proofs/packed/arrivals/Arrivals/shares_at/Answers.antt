@@ -4,8 +4,8 @@ use Rattle.books.specs.ArrangingLemmas.{shares_more}
 use Rattle.books.specs.Spots.{shares_most}
 use Rattle.books.proofs.packed.arrivals.Arrivals.shares_at.Goals as goal
 
-pub overflow-add-sum : goal.overflow-add-sum
-overflow-add-sum c = omega arith
+pub overflow_add-sum : goal.overflow_add-sum
+overflow_add-sum c = omega arith
 
 pub loop-i-preserved : goal.loop-i-preserved
 loop-i-preserved c =

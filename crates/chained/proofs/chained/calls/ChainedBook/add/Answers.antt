@@ -14,7 +14,7 @@ returns-then-not-has-space g c =
     ap is_some (sym c.find.ensures) ∙ sym c.if-is-some.ensures in
     let full : room_in rs ≤ length (orders_in rs) =
     ltb-false (length (orders_in rs)) (room_in rs) (sym c.if-not-has-space.ensures) in
-    let out = add_full g.row.S-Side.rule (room_in rs) (orders_in rs) c.args.order good new full in
+    let out = add_full g.S.Side.rule (room_in rs) (orders_in rs) c.args.order good new full in
     record { answer = sym (ap (λ o. o.answer) out); list = sym (ap (λ o. o.list) out); places = refl }
 
 pub link-requires : goal.link-requires
@@ -23,10 +23,10 @@ link-requires g c =
     let rs = b.chains.records.now in
     let space : length (orders_in rs) < room_in rs =
     ltb-true (length (orders_in rs)) (room_in rs) (sym c.if-not-has-space.ensures) in
-    let before = add_before g.row.S-Side.rule c.args.order rs b.chains.count (held b) space in (
+    let before = add_before g.S.Side.rule c.args.order rs b.chains.count (held b) space in (
       omega (arith, c.seek-spot.ensures.before, before),
-      add_here g.row.S-Side.rule c.args.order rs b.chains.count (held b) space,
-      add_count g.row.S-Side.rule c.args.order rs b.chains.count (held b) space,
+      add_here g.S.Side.rule c.args.order rs b.chains.count (held b) space,
+      add_count g.S.Side.rule c.args.order rs b.chains.count (held b) space,
     )
 
 pub invariant-of-self : goal.invariant-of-self
@@ -36,7 +36,7 @@ invariant-of-self g c =
     let good : sound c.args.order ≡ true = sym c.if-not-is-sound.ensures in
     let space : length (orders_in rs) < room_in rs =
     ltb-true (length (orders_in rs)) (room_in rs) (sym c.if-not-has-space.ensures) in
-    (added_held g.row.S-Side.rule c.args.order rs b.chains.count (held b) space
+    (added_held g.S.Side.rule c.args.order rs b.chains.count (held b) space
     c.link.new.self.records.now c.seek-spot.result.before c.link.new.self.count good c.seek-spot.ensures.before
     c.link.ensures.records c.link.ensures.count).held
 
@@ -49,8 +49,8 @@ returns g c =
     ap is_some (sym c.find.ensures) ∙ sym c.if-is-some.ensures in
     let space : length (orders_in rs) < room_in rs =
     ltb-true (length (orders_in rs)) (room_in rs) (sym c.if-not-has-space.ensures) in
-    let done = added_held g.row.S-Side.rule c.args.order rs b.chains.count (held b) space
+    let done = added_held g.S.Side.rule c.args.order rs b.chains.count (held b) space
     c.link.new.self.records.now c.seek-spot.result.before c.link.new.self.count good c.seek-spot.ensures.before
     c.link.ensures.records c.link.ensures.count in
-    let out = add_passes g.row.S-Side.rule (room_in rs) (orders_in rs) c.args.order good new space in
+    let out = add_passes g.S.Side.rule (room_in rs) (orders_in rs) c.args.order good new space in
     record { answer = sym (ap (λ o. o.answer) out); list = done.list ∙ sym (ap (λ o. o.list) out); places = done.room }
