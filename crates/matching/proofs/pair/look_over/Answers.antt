@@ -6,8 +6,8 @@ use Rattle.matching.proofs.pair.look_over.Goals as goal
 pub loop-pair-init : goal.loop-pair-init
 loop-pair-init g c = (looking_none c.args.increment c.args.away _ c.args.list.now, refl, refl, refl, refl)
 
-pub overflow-add-trades : goal.overflow-add-trades
-overflow-add-trades g c =
+pub overflow_add-trades : goal.overflow_add-trades
+overflow_add-trades g c =
     let db = g.met.DB.Book.kept c.args.bids.now in
     let da = g.met.DA.Book.kept c.args.asks.now in
     let kb = g.met.KB.Book.kept c.args.dark_bids.now in
@@ -21,20 +21,20 @@ loop-pair-smaller g c =
       (g.met.DA.Book.kept c.loop-pair.asks).2,
       (g.met.KB.Book.kept c.loop-pair.dark_bids).2,
       (g.met.KA.Book.kept c.loop-pair.dark_asks).2,
-    ) c.trade-pair.ensures.books
+    ) c.trade_pair.ensures.books
 
 pub loop-pair-preserved : goal.loop-pair-preserved
 loop-pair-preserved g c =
     let i = c.loop-pair.invariant in
-    let e = c.trade-pair.ensures in (
+    let e = c.trade_pair.ensures in (
       looking_turn c.args.increment c.args.away _ _ _ _ _ _ _ c.in-Some.pair i.0 (sym c.in-Some.ensures) (
         (g.met.DB.Book.kept c.loop-pair.bids).2,
         (g.met.DA.Book.kept c.loop-pair.asks).2,
         (g.met.KB.Book.kept c.loop-pair.dark_bids).2,
         (g.met.KA.Book.kept c.loop-pair.dark_asks).2,
       ) e.books e.list,
-      e.displayed-places.0 ∙ i.1,
-      e.displayed-places.1 ∙ i.2,
+      e.displayed_places.0 ∙ i.1,
+      e.displayed_places.1 ∙ i.2,
       e.dark_places.0 ∙ i.3,
       e.dark_places.1 ∙ i.4,
     )
@@ -43,7 +43,7 @@ pub returns : goal.returns
 returns g c =
     let i = c.loop-pair.invariant in
     record {
-      looks = looking_all c.args.increment c.args.away _ _ _ _ _ i.0 (sym c.in-default.ensures);
-      displayed-places = (i.1, i.2);
+      looks = looking_all c.args.increment c.args.away _ _ _ _ _ i.0 (sym c.in_default.ensures);
+      displayed_places = (i.1, i.2);
       dark_places = (i.3, i.4);
     }
