@@ -4,15 +4,17 @@ use Rattle.std.proofs.lemmas.List.{length-set, length-map}
 use Rattle.std.proofs.lemmas.Bool.{cond_both, and_parts, and_from, leb-true}
 use Rattle.rules.specs.Prices.{most_shares}
 use Rattle.rules.specs.Sides.{Rule}
+use Rattle.rules.specs.declared.side.Side.{Ghosts}
 use Rattle.books.specs.Lists.{most_places, Kept, find, front_of, put, without, reduced, shares_at, sound}
 use Rattle.books.specs.declared.standing.Standing.{Standing}
 use Rattle.chained.specs.Links.{times, first, stop}
+use Rattle.chained.specs.Laws.{length_orders}
 use Rattle.chained.specs.Records.{most_records, at, next_of, free_of, order_of, line, idle, orders_in, room_in, Apart, Whole, Cleared, all_sound, linked, unlinked, with_order}
 use Rattle.chained.specs.declared.chained.Chained.{Chained}
 use Rattle.chained.specs.declared.record.Record.{Record}
 use Rattle.chained.proofs.Chain.{Chain, cutOut, frame, never_zero, times_here}
 use Rattle.chained.proofs.Columns.{at_same, at_other, keeps}
-use Rattle.chained.proofs.Meant.{map_same, find_some, find_none, all_is, all_put, all_without}
+use Rattle.chained.proofs.Meant.{map_same, find_some, find_none, all_put, all_without}
 use Rattle.chained.proofs.Moves.{line_chain, idle_chain, line_is, idle_is, once, length_linked, length_unlinked}
 use Rattle.chained.proofs.Formed.{formed, line_cleared, formed_cleared, link_here, link_before, formed_linked, count_linked, orders_linked, unlink_here, unlink_before, formed_unlinked, count_unlinked, orders_cut, orders_unlinked}
 use Rattle.chained.proofs.Outcomes.{reduced_sound}
@@ -23,12 +25,6 @@ abbrev pub Held : (count : ℕ) → List Record → Type 0
 Held count rs =
     (length rs ≤ most_records)
     × ((count ≡ length (orders_in rs)) × (Apart rs × (Whole rs × ((all_sound (orders_in rs) ≡ true) × Unit {0}))))
-
-length_orders : (rs : List Record) → length (orders_in rs) ≡ length (line rs)
-length_orders rs = length-map (line rs) (order_of rs)
-
-pub held_kept : (rs : List Record) (count : ℕ) → Held count rs → Kept (room_in rs) (orders_in rs)
-held_kept rs count h = (omega (arith, h.0), omega (arith, h.1.1.1.0, length_orders rs), all_is (orders_in rs) h.1.1.1.1.0)
 
 -- the shares at a price fit: at most 4,096 orders with at most 10,000,000 each
 shares_most : (price : ℕ) (os : List Standing) → all_sound os ≡ true → shares_at price os ≤ 10000000 * length os
@@ -237,7 +233,7 @@ module _ (rs : List Record) (apart : Apart rs) (whole : Whole rs) (number here :
       ap (λ v. Some v.order) (e ∙ ap (at rs) is) ∙ sym (find_some number (order_of rs) (line rs) (omega (arith, some)))
 
 -- what the ghost fields of a book say together
-pub held : {X : Type 0} (b : Chained X) → Held b.chains.count b.chains.records.now
+pub held : {X : Type 0} {d : Ghosts X} (b : Chained X d) → Held b.chains.count b.chains.records.now
 held b = (b.few, (b.counted, (b.apart, (b.whole, (b.sound, tt)))))
 
 -- an answer from the front names the first record's order

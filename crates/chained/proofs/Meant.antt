@@ -68,10 +68,6 @@ find_none number p (x ∷ xs) pos none =
 
 -- Soundness
 
-pub all_is : (os : List Standing) → all_sound os ≡ true → AllSound os
-all_is [] h = tt
-all_is (o ∷ os) h = let two = and_parts (sound o) (all_sound os) h in (two.0, all_is os two.1)
-
 pub all_put : (rule : Rule) (o : Standing) (os : List Standing) → sound o ≡ true → all_sound os ≡ true → all_sound (put rule o os) ≡ true
 all_put rule o [] good all = and_from (sound o) true good refl
 all_put rule o (x ∷ xs) good all =

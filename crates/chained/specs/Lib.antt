@@ -1,2 +1,3 @@
 pub mod Links
 pub mod Records
+pub mod Laws

@@ -1,6 +1,7 @@
 // The calls of a chained book.
 ghost use Rattle.std.specs.Prelude.{◌≡◌, ◌-◌, min, [], length, drop, nat_lt};
 ghost use Rattle.books.specs.Lists.{most_places, sound};
+ghost use Rattle.chained.specs.Laws.{kept_by};
 ghost use Rattle.chained.specs.Records.{most_records, orders_in, room_in};
 
 use crate::chained::Chained;
@@ -78,6 +79,8 @@ impl<S: Side> Book for Chained<'_, S> {
     ghost orders = { λ b. orders_in b.chains.records.now };
 
     ghost room = { λ b. room_in b.chains.records.now };
+
+    ghost kept = { λ b. kept_by b.chains.records.now b.few b.whole b.sound };
 
     fn empty(&mut self) {
         self.chains.clear();

@@ -2,8 +2,8 @@ use Rattle.std.proofs.Common.{◌∙◌, arith}
 use Rattle.market.proofs.Handled.{placed_few, looked_few, handled_both}
 use Rattle.market.proofs.steps.handle.Goals as goal
 
-pub overflow-add-result : goal.overflow-add-result
-overflow-add-result g c =
+pub overflow_add-result : goal.overflow_add-result
+overflow_add-result g c =
     let a = c.args in
     let placed = placed_few a.side a.increment a.away (g.Q.BookSet.rooms a.books.now) a.active.now (g.Q.BookSet.lists a.books.now) in
     let looked = looked_few a.increment a.away (g.Q.BookSet.lists c.place-ended.new.self) in
@@ -12,7 +12,7 @@ overflow-add-result g c =
       placed,
       looked,
       c.place-ended.ensures.places.trades_is,
-      c.look-over-looked.ensures.looks.count_is,
+      c.look_over-looked.ensures.looks.count_is,
       g.met.Q.BookSet.few a.books.now,
       g.met.Q.BookSet.few c.place-ended.new.self,
     )
@@ -21,8 +21,8 @@ pub returns : goal.returns
 returns g c =
     record {
       handles =
-          handled_both c.args.side c.args.increment c.args.away _ c.args.list.now c.place-ended.new.list c.look-over-looked.new.list
-          c.min-at.result (g.Q.BookSet.lists c.place-ended.new.self) _ c.place-ended.result c.look-over-looked.result
-          c.place-ended.ensures.places c.min-at.ensures c.look-over-looked.ensures.looks;
-      rooms = c.look-over-looked.ensures.rooms ∙ c.place-ended.ensures.rooms;
+          handled_both c.args.side c.args.increment c.args.away _ c.args.list.now c.place-ended.new.list c.look_over-looked.new.list
+          c.min-at.result (g.Q.BookSet.lists c.place-ended.new.self) _ c.place-ended.result c.look_over-looked.result
+          c.place-ended.ensures.places c.min-at.ensures c.look_over-looked.ensures.looks;
+      rooms = c.look_over-looked.ensures.rooms ∙ c.place-ended.ensures.rooms;
     }

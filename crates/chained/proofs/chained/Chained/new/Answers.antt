@@ -2,12 +2,14 @@ use Rattle.std.proofs.Common.{◌-◌, ◌≤◌, length, take, arith, length-ta
 use Rattle.chained.proofs.Held.{held_cleared, orders_cleared}
 use Rattle.chained.proofs.chained.Chained.new.Goals as goal
 
-pub invariant-of-result : goal.invariant-of-result
-invariant-of-result g c =
+pub invariant_of-result : goal.invariant_of-result
+invariant_of-result g c =
     let n : length (take (c.serving-end.result - 0) c.args.records.now) ≤ 4097 =
     simp length-take (omega (arith, c.serving-end.ensures)) in
+    let k =
     held_cleared c.clear.new.self.records.now (length (take (c.serving-end.result - 0) c.args.records.now)) c.clear.new.self.count
-    n c.clear.ensures.records c.clear.ensures.count
+    n c.clear.ensures.records c.clear.ensures.count in
+    record { few = k.0; counted = k.1.0; apart = k.1.1.0; whole = k.1.1.1.0; sound = k.1.1.1.1.0 }
 
 pub returns : goal.returns
 returns g c = record {

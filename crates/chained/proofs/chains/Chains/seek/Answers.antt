@@ -5,7 +5,7 @@ use Rattle.chained.proofs.chains.Chains.seek.Goals as goal
 pub loop-here-init : goal.loop-here-init
 loop-here-init g c =
     seek_starts c.args.self.now.records.now (g.T.Test.meant c.args.test.now) c.first-here.result
-    c.requires.0 c.requires.1 c.first-here.ensures
+    c.requires.apart c.requires.whole c.first-here.ensures
 
 pub at-record-requires : goal.at-record-requires
 at-record-requires g c =

@@ -19,20 +19,23 @@ unlink-requires g c =
     let t = numbered c.args.number b.chains.records.now in
     let some : first t (line b.chains.records.now) ≢ 0 = λ z. c.if-spot-eq0.false (c.seek-spot.ensures.here ∙ z) in
     let before : stop t 0 (line b.chains.records.now) < length b.chains.records.now =
-    cut_before t b.chains.records.now b.chains.count (held b) some in (
-      omega (arith, c.seek-spot.ensures.before, before),
-      found_below b.chains.records.now b.apart b.whole c.args.number c.seek-spot.result.here
-          c.seek-spot.ensures.here c.if-spot-eq0.false,
-      cut_count t b.chains.records.now b.chains.count (held b) some,
-    )
+    cut_before t b.chains.records.now b.chains.count (held b) some in
+    record {
+      before_in_bounds = omega (arith, c.seek-spot.ensures.before, before);
+      here_in_bounds = found_below b.chains.records.now b.apart b.whole c.args.number c.seek-spot.result.here
+          c.seek-spot.ensures.here c.if-spot-eq0.false;
+      count_nonzero = cut_count t b.chains.records.now b.chains.count (held b) some;
+    }
 
-pub invariant-of-self : goal.invariant-of-self
-invariant-of-self g c =
+pub invariant_of-self : goal.invariant_of-self
+invariant_of-self g c =
     let b = c.args.self.now in
+    let k =
     (removed_held c.args.number b.chains.records.now b.chains.count (held b)
     (λ z. c.if-spot-eq0.false (c.seek-spot.ensures.here ∙ z)) c.unlink.new.self.records.now c.seek-spot.result.before
     c.seek-spot.result.here c.unlink.new.self.count c.seek-spot.ensures.before c.seek-spot.ensures.here
-    c.unlink.ensures.records c.unlink.ensures.count).held
+    c.unlink.ensures.records c.unlink.ensures.count).held in
+    record { few = k.0; counted = k.1.0; apart = k.1.1.0; whole = k.1.1.1.0; sound = k.1.1.1.1.0 }
 
 pub returns : goal.returns
 returns g c =

@@ -10,15 +10,21 @@ unlink-requires g c =
     let rs = b.chains.records.now in
     let known = front_known rs b.apart b.whole c.in-Some.order c.in-Some.ensures in
     let below : next_of rs 0 < length rs = front_below rs b.apart b.whole known.0 in
-    (omega (arith, below), omega (arith, below, c.first-here.ensures), take_count rs b.chains.count (held b) known.0)
+    record {
+      before_in_bounds = omega (arith, below);
+      here_in_bounds = omega (arith, below, c.first-here.ensures);
+      count_nonzero = take_count rs b.chains.count (held b) known.0;
+    }
 
-pub invariant-of-self : goal.invariant-of-self
-invariant-of-self g c =
+pub invariant_of-self : goal.invariant_of-self
+invariant_of-self g c =
     let b = c.args.self.now in
     let rs = b.chains.records.now in
     let known = front_known rs b.apart b.whole c.in-Some.order c.in-Some.ensures in
+    let k =
     (taken_whole rs b.chains.count (held b) known.0 c.unlink.new.self.records.now c.first-here.result c.unlink.new.self.count
-    c.first-here.ensures c.unlink.ensures.records c.unlink.ensures.count).held
+    c.first-here.ensures c.unlink.ensures.records c.unlink.ensures.count).held in
+    record { few = k.0; counted = k.1.0; apart = k.1.1.0; whole = k.1.1.1.0; sound = k.1.1.1.1.0 }
 
 pub returns-then-shares-order-2 : goal.returns-then-shares-order-2
 returns-then-shares-order-2 g c =
@@ -38,15 +44,20 @@ reduce-requires g c =
     let known = front_known rs b.apart b.whole c.in-Some.order c.in-Some.ensures in
     let below : next_of rs 0 < length rs = front_below rs b.apart b.whole known.0 in
     let same : c.in-Some.order ≡ order_of rs c.first-here.result = known.1 ∙ ap (order_of rs) (sym c.first-here.ensures) in
-    (omega (arith, below, c.first-here.ensures), omega (arith, ap (λ o. o.shares) same, c.if-shares-order.false))
+    record {
+      here_in_bounds = omega (arith, below, c.first-here.ensures);
+      shares_bound = omega (arith, ap (λ o. o.shares) same, c.if-shares-order.false);
+    }
 
-pub invariant-of-self-else-shares-order-2 : goal.invariant-of-self-else-shares-order-2
-invariant-of-self-else-shares-order-2 g c =
+pub invariant_of-self-else-shares-order-2 : goal.invariant_of-self-else-shares-order-2
+invariant_of-self-else-shares-order-2 g c =
     let b = c.args.self.now in
     let known = front_known b.chains.records.now b.apart b.whole c.in-Some.order c.in-Some.ensures in
+    let k =
     (taken_part b.chains.records.now b.chains.count (held b) known.0 c.in-Some.order c.args.shares c.reduce.new.self.records.now
     c.first-here.result c.reduce.new.self.count known.1 c.if-shares-order.false c.if-shares-order-2.false
-    c.first-here.ensures c.reduce.ensures.records c.reduce.ensures.count).held
+    c.first-here.ensures c.reduce.ensures.records c.reduce.ensures.count).held in
+    record { few = k.0; counted = k.1.0; apart = k.1.1.0; whole = k.1.1.1.0; sound = k.1.1.1.1.0 }
 
 pub returns-else-shares-order-2 : goal.returns-else-shares-order-2
 returns-else-shares-order-2 g c =
