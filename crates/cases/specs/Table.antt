@@ -1,10 +1,9 @@
 -- The worked cases, as one table that is computed over the definitions that the contracts cite.
-use Rattle.std.specs.Prelude.{ℕ, ◌+◌, ◌-◌, Bool, true, false, not, ◌&&◌, List, [], ◌∷◌, Some, None, Option, ◌==◌}
+use Rattle.std.specs.Prelude.{ℕ, ◌+◌, ◌-◌, Bool, true, not, ◌&&◌, List, [], ◌∷◌, Some, None, Option, ◌==◌}
 use Rattle.rules.specs.Better.{better}
 use Rattle.rules.specs.Forms.{bound_at, large_at}
 use Rattle.rules.specs.Sheets.{increment_at, unit_at}
 use Rattle.rules.specs.Sides.{bids, asks}
-use Rattle.rules.specs.declared.price.Quote.{Quote}
 use Rattle.rules.specs.declared.terms.Kind.{Kind}
 use Rattle.rules.specs.declared.terms.Kind.TheVariants.{Displayed, Dark, HalfStep}
 use Rattle.rules.specs.declared.terms.SideName.{SideName}

@@ -1,11 +1,11 @@
 -- What a chained book keeps, call by call: well-formed chains, the count, and sound orders.
 use Rattle.std.proofs.Common.{◌≡◌, ℕ, ◌+◌, ◌-◌, ◌*◌, ◌^◌, ◌<◌, ◌≤◌, Bool, true, ◌&&◌, eqb, leb, ◌≢◌, List, [], ◌∷◌, map, length, Some, None, sym, refl, ap, ◌∙◌, subst, arith}
-use Rattle.std.proofs.lemmas.List.{length-set, length-map}
+use Rattle.std.proofs.lemmas.List.{length-set}
 use Rattle.std.proofs.lemmas.Bool.{cond_both, and_parts, and_from, leb-true}
 use Rattle.rules.specs.Prices.{most_shares}
 use Rattle.rules.specs.Sides.{Rule}
 use Rattle.rules.specs.declared.side.Side.{Ghosts}
-use Rattle.books.specs.Lists.{most_places, Kept, find, front_of, put, without, reduced, shares_at, sound}
+use Rattle.books.specs.Lists.{most_places, find, front_of, put, without, reduced, shares_at, sound}
 use Rattle.books.specs.declared.standing.Standing.{Standing}
 use Rattle.chained.specs.Links.{times, first, stop}
 use Rattle.chained.specs.Laws.{length_orders}

@@ -2,7 +2,7 @@
 use Rattle.std.proofs.Common.{◌≡◌, ℕ, ◌<◌, Bool, true, false, cond, eqb, List, [], ◌∷◌, map, Some, None, refl, ap, arith}
 use Rattle.std.proofs.lemmas.Bool.{cond_both, and_parts, and_from}
 use Rattle.rules.specs.Sides.{Rule}
-use Rattle.books.specs.Lists.{find, put, without, sound, AllSound}
+use Rattle.books.specs.Lists.{find, put, without, sound}
 use Rattle.books.specs.declared.standing.Standing.{Standing}
 use Rattle.chained.specs.Links.{times, first}
 use Rattle.chained.specs.Records.{all_sound}

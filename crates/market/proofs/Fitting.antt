@@ -1,8 +1,8 @@
 -- No call makes more trades than orders stood before it.
-use Rattle.std.proofs.Common.{◌≡◌, ℕ, zero, suc, ◌+◌, ◌<◌, ◌≤◌, Bool, true, false, cond, not, ◌&&◌, eqb, ltb, List, [], ◌∷◌, ◌++◌, length, Some, None, Ok, Option, sym, refl, ap, ◌∙◌, subst, arith, length-append}
+use Rattle.std.proofs.Common.{◌≡◌, ℕ, zero, suc, ◌+◌, ◌<◌, ◌≤◌, Bool, true, false, cond, not, ◌&&◌, eqb, ltb, List, [], ◌∷◌, ◌++◌, length, Some, None, Ok, Option, refl, ap, arith, length-append}
 use Rattle.books.specs.Lists.{AllSound, sound, stands, put, added, add_refusal, find, removed, removed_found, without, unless as unless-added}
 use Rattle.books.specs.declared.standing.Standing.{Standing}
-use Rattle.market.specs.Bounds.{SoundBooks, Fits, TradesFit}
+use Rattle.market.specs.Bounds.{SoundBooks, TradesFit}
 use Rattle.market.specs.Calls.{State, Done, unless, look_in, placed_at, booked_at, entered_by, entry_refusal, entry_of, cancel_refusal, notice_refusal, aside_refusal, resume_refusal}
 use Rattle.market.specs.Quoting.{away_of, quoted, dropped}
 use Rattle.market.specs.Sets.{Rooms, met_rule, own_rule, own_room, facing, seen_from, find_either, first_found, unless_found, without_in, placed_in}
@@ -10,18 +10,16 @@ use Rattle.market.specs.declared.phase.Phase.{Phase}
 use Rattle.market.specs.declared.phase.Phase.TheVariants.{Open, Halted, Closed}
 use Rattle.market.proofs.Handled.{placed_few, looked_few}
 use Rattle.matching.proofs.Pairs.{looked_but_one}
-use Rattle.matching.proofs.Turns.{chances, matched_spends, matched_sounds}
+use Rattle.matching.proofs.Turns.{matched_spends, matched_sounds}
 use Rattle.matching.specs.Looking.{Books, standing_in, looked}
-use Rattle.matching.specs.Matching.{Scene, matched}
+use Rattle.matching.specs.Matching.{Scene}
 use Rattle.matching.specs.Placing.{View, Placed, around_in, met, rest_of, is_booked, booked_in, placed}
 use Rattle.matching.specs.Trades.{Steps}
 use Rattle.matching.specs.Ways.{way_of}
 use Rattle.matching.specs.declared.candidate.Entry.{Entry}
-use Rattle.matching.specs.declared.trade.Trade.{Trade}
 use Rattle.matching.specs.declared.way.Rest.{Rest}
 use Rattle.rules.specs.Refusals.{check}
 use Rattle.rules.specs.Sides.{Rule}
-use Rattle.rules.specs.declared.form.Form.{Form}
 use Rattle.rules.specs.declared.price.Quote.{Quote}
 use Rattle.rules.specs.declared.refusal.Refusal.{Refusal}
 use Rattle.rules.specs.declared.refusal.Refusal.TheVariants.{BadOrder, BookFull}

@@ -1,5 +1,5 @@
 -- What each call of a market answers, the state that it leaves, and the trades that it makes.
-use Rattle.std.specs.Prelude.{◌≡◌, ℕ, ◌+◌, ◌-◌, Bool, true, false, not, ◌&&◌, ◌||◌, List, [], ◌∷◌, ◌++◌, length, replicate, is_some, Some, None, Ok, Err, Option, Result, ◌==◌, count_ones, nat_le, nat_lt}
+use Rattle.std.specs.Prelude.{◌≡◌, ℕ, ◌+◌, ◌-◌, Bool, true, false, not, ◌&&◌, ◌||◌, List, [], ◌++◌, length, replicate, is_some, Some, None, Ok, Err, Option, Result, ◌==◌, count_ones, nat_le, nat_lt}
 use Rattle.books.specs.Lists.{shares_at}
 use Rattle.books.specs.declared.standing.Standing.{Standing}
 use Rattle.market.specs.Quoting.{no_quote, away_of, quoted, dropped, is_aside, with_aside}

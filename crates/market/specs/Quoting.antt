@@ -1,5 +1,5 @@
 -- The quotes of the eight other marketplaces, numbered from 1, and which of them are set aside.
-use Rattle.std.specs.Prelude.{ℕ, ◌-◌, ◌^◌, Bool, not, List, [], ◌∷◌, set, Some, None, Option, ◌==◌, bit_and, bit_or, slice_index_or, slice_set}
+use Rattle.std.specs.Prelude.{ℕ, ◌-◌, ◌^◌, Bool, not, List, [], ◌∷◌, None, Option, ◌==◌, bit_and, bit_or, slice_index_or, slice_set}
 use Rattle.rules.specs.Better.{best_of}
 use Rattle.rules.specs.declared.price.Quote.{Quote}
 use Rattle.rules.specs.declared.terms.SideName.{SideName}

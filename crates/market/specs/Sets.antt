@@ -1,5 +1,5 @@
 -- Four books taken together: bids and asks, displayed and dark.
-use Rattle.std.specs.Prelude.{ℕ, ◌+◌, Bool, true, false, cond, List, [], length, Some, None, Ok, Err, Option, Result, nat_lt}
+use Rattle.std.specs.Prelude.{ℕ, Bool, true, false, List, [], length, Some, None, Ok, Err, Option, Result, nat_lt}
 use Rattle.books.specs.Lists.{find, removed}
 use Rattle.books.specs.declared.standing.Standing.{Standing}
 use Rattle.matching.specs.Looking.{Books}

@@ -1,13 +1,11 @@
 -- The loop that looks over the books: the trade of a pair takes an order out.
-use Rattle.std.proofs.Common.{◌≡◌, ℕ, ◌+◌, ◌-◌, ◌<◌, ◌≤◌, min, Bool, true, false, cond, ◌&&◌, eqb, leb, ◌⊎◌, List, [], ◌∷◌, length, set, Some, None, Option, sym, refl, ap, subst, inl, inr, arith}
+use Rattle.std.proofs.Common.{◌≡◌, ℕ, ◌+◌, ◌<◌, ◌≤◌, min, Bool, true, false, cond, ◌⊎◌, List, [], ◌∷◌, length, set, Some, None, Option, sym, refl, ap, subst, inl, inr, arith}
 use Rattle.std.proofs.lemmas.Bool.Decides.{leb_tells}
-use Rattle.books.specs.Lists.{taken, less, reduced, AllSound, sound}
+use Rattle.books.specs.Lists.{taken, AllSound}
 use Rattle.books.specs.declared.standing.Standing.{Standing}
-use Rattle.rules.specs.Better.{better}
 use Rattle.rules.specs.Sides.{Rule, bids, asks}
 use Rattle.rules.specs.declared.price.Quote.{Quote}
-use Rattle.matching.specs.Looking.{Books, best_in, trade_of, pair, either_pair, pair_in, paired, pair_step, look_step, standing_in, looked, Looks}
-use Rattle.matching.specs.Matching.{at_or_ahead}
+use Rattle.matching.specs.Looking.{Books, best_in, pair, either_pair, pair_in, paired, pair_step, look_step, standing_in, looked, Looks}
 use Rattle.matching.specs.Trades.{Step}
 use Rattle.matching.specs.declared.pair.Pair.{Pair}
 use Rattle.matching.specs.declared.trade.Trade.{Trade}

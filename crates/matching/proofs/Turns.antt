@@ -9,7 +9,6 @@ use Rattle.matching.specs.Trades.{Step}
 use Rattle.matching.specs.declared.candidate.Around.{Around}
 use Rattle.matching.specs.declared.candidate.Candidate.{Candidate}
 use Rattle.matching.specs.declared.candidate.Entry.{Entry}
-use Rattle.matching.specs.declared.entry.Left.{Left}
 use Rattle.matching.specs.declared.trade.Trade.{Trade}
 use Rattle.matching.proofs.Fronts.{none_some, some_same, candidate_front, shares_open, one_fewer, some_stand, some_shares, taken_shorter, taken_sound}
 use Rattle.matching.proofs.Going.{steps_keep, steps_spend, Progress, progress_none, progress_more, progress_state, progress_count, progress_list}

@@ -1,5 +1,5 @@
 -- What is answered to a form line, by which case the writing of the form came out at.
-use Rattle.std.proofs.Common.{◌≡◌, ℕ, Bool, Ok, Err, sym, ap, ◌∙◌}
+use Rattle.std.proofs.Common.{◌≡◌, ℕ, Bool, Ok, Err}
 use Rattle.pricecheck.specs.Desk.{form_answer}
 use Rattle.pricecheck.specs.declared.answer.Answer.TheVariants.{Refused, Form as FormAnswer}
 use Rattle.rules.proofs.Answering.{written, not_written}

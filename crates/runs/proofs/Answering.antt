@@ -1,5 +1,5 @@
 -- What an entry's answer is, from which case the call gave.
-use Rattle.std.proofs.Common.{◌≡◌, Ok, Err, Result, sym, ap}
+use Rattle.std.proofs.Common.{◌≡◌, Ok, Err, Result, ap}
 use Rattle.market.specs.Calls.{AnswersEntry}
 use Rattle.market.specs.declared.answers.Entered.{Entered}
 use Rattle.rules.specs.declared.form.Form.{Form}

@@ -1,14 +1,13 @@
 -- One call: what it keeps of a state, and that its tape, its records and its answer tell the same.
-use Rattle.std.proofs.Common.{◌≡◌, ℕ, ◌+◌, ◌≤◌, Bool, true, false, cond, not, ◌&&◌, ◌||◌, leb, List, [], ◌∷◌, ◌++◌, length, is_some, Some, None, Ok, Err, Option, Result, sym, refl, ap, ◌∙◌, subst, arith}
+use Rattle.std.proofs.Common.{◌≡◌, ℕ, ◌+◌, ◌≤◌, Bool, true, false, not, leb, [], ◌∷◌, ◌++◌, length, is_some, Some, None, Ok, Err, Option, Result, sym, refl, ap, ◌∙◌, subst, arith}
 use lib.Count.{ones}
 use Rattle.std.proofs.lemmas.Bool.{leb-true}
 use Rattle.books.proofs.Past.{each_map}
 use Rattle.books.specs.Histories.{Each}
 use Rattle.books.specs.Lists.{find}
-use Rattle.books.specs.declared.standing.Standing.{Standing}
 use Rattle.market.proofs.Fitting.{trades_fit}
 use Rattle.market.specs.Bounds.{SoundBooks}
-use Rattle.market.specs.Calls.{State, Done, unless, with_books, with_phase, with_quotes, look, look_in, then_look, list_checked, first_checked, marketplace_checks, valid_quote, is_marketplace, not_closed, not_halted, cancel_refusal, cancelled, shares_of, notice_refusal, noticed, aside_refusal, put_aside, resume_refusal, resumed, halted, closed}
+use Rattle.market.specs.Calls.{State, Done, unless, with_books, with_phase, with_quotes, look, look_in, then_look, list_checked, first_checked, valid_quote, is_marketplace, not_closed, not_halted, cancel_refusal, shares_of, notice_refusal, aside_refusal, resume_refusal}
 use Rattle.market.specs.Quoting.{away_of, quoted, dropped, with_aside, is_aside}
 use Rattle.market.specs.Sets.{find_in, find_either, first_found, unless_found, without_in}
 use Rattle.market.specs.declared.answers.Aside.{Aside}
@@ -18,10 +17,8 @@ use Rattle.market.specs.declared.phase.Phase.TheVariants.{Open, Halted, Closed}
 use Rattle.matching.proofs.Fronts.{none_some}
 use Rattle.matching.specs.Looking.{Books, pair_in, standing_in, looked}
 use Rattle.matching.specs.Trades.{Steps}
-use Rattle.matching.specs.declared.trade.Trade.{Trade}
 use Rattle.rules.specs.Refusals.{check}
 use Rattle.rules.specs.Sides.{bids, asks}
-use Rattle.rules.specs.declared.price.Quote.{Quote}
 use Rattle.rules.specs.declared.refusal.Refusal.{Refusal}
 use Rattle.rules.specs.declared.refusal.Refusal.TheVariants.{MarketClosed, NotStanding, NoMarketplace, AlreadyAside, BadQuotePrice, WrongPhase, ShortTradeList}
 use Rattle.rules.specs.declared.terms.SideName.{SideName}

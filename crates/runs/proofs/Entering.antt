@@ -1,18 +1,15 @@
 -- An entry: numbered, matched, ended, and the books looked over.
-use Rattle.std.proofs.Common.{◌≡◌, ℕ, ◌+◌, ◌-◌, ◌*◌, ◌/◌, ◌%◌, ◌<◌, ◌≤◌, Bool, true, false, cond, not, ◌&&◌, ◌||◌, eqb, ltb, leb, ◌⊎◌, List, [], ◌∷◌, ◌++◌, length, Some, None, Ok, Err, Option, Result, sym, refl, ap, ◌∙◌, subst, ⊎_elim, append_assoc, mod-eq_of_lt, arith, length-append}
+use Rattle.std.proofs.Common.{◌≡◌, ℕ, ◌+◌, ◌%◌, ◌<◌, ◌≤◌, Bool, true, false, cond, ◌&&◌, ◌||◌, eqb, ltb, leb, List, [], ◌∷◌, ◌++◌, length, Some, None, Err, Option, sym, refl, ap, ◌∙◌, subst, ⊎_elim, mod-eq_of_lt, arith, length-append}
 use Rattle.std.proofs.lemmas.Bool.{cases_lt, and_parts, leb-true, eqb-true, or_cases, both_ways}
 use Rattle.books.specs.declared.standing.Standing.{Standing}
 use Rattle.market.proofs.Fitting.{trades_fit}
-use Rattle.market.specs.Calls.{State, Done, unless, with_books, with_issued, not_closed, not_halted, is_displayed, entry_of, entry_refusal, placed_at, booked_at, entered_by, entered}
+use Rattle.market.specs.Calls.{State, unless, with_books, with_issued, not_closed, not_halted, is_displayed, entry_of, entry_refusal, placed_at, booked_at, entered_by}
 use Rattle.market.specs.Quoting.{away_of}
-use Rattle.market.specs.Sets.{met_rule, own_rule, own_room, own_list, room_left, facing, seen_from, placed_in}
-use Rattle.market.specs.declared.answers.Entered.{Entered}
+use Rattle.market.specs.Sets.{own_rule, own_room, own_list, room_left, facing, seen_from}
 use Rattle.market.specs.declared.phase.Phase.{Phase}
 use Rattle.market.specs.declared.phase.Phase.TheVariants.{Open, Halted, Closed}
-use Rattle.matching.specs.Looking.{Books, standing_in, looked, pair_in}
+use Rattle.matching.specs.Looking.{Books, standing_in}
 use Rattle.matching.specs.Placing.{View, Placed, is_booked}
-use Rattle.matching.specs.Trades.{Steps}
-use Rattle.matching.specs.Ways.{way_cancelled}
 use Rattle.matching.specs.declared.candidate.Entry.{Entry}
 use Rattle.matching.specs.declared.trade.Trade.{Trade}
 use Rattle.rules.specs.Forms.{bound, bound_at, large}
@@ -30,17 +27,15 @@ use Rattle.runs.proofs.Calling.{Sane, CallKept, refused_kept, check_none, neat_s
 use Rattle.runs.proofs.Courses.{Course}
 use Rattle.runs.proofs.Facing.{MatchedIn, seen_facing}
 use Rattle.runs.proofs.Looking.{no_pair_left}
-use Rattle.runs.proofs.Lowering.{amount}
 use Rattle.runs.proofs.Neat.{NeatView, Neat, neat_facing, neat_seen}
-use Rattle.runs.proofs.Placing.{view_amount, booked_view, seen_booked, own_of, places_of, met_view, rest, way, p, met_went, Left, placed_left}
-use Rattle.runs.proofs.Taping.{At, Moments, Given, given_more, given_one_more, replay_append, trades_append, trades_trading, moments_append, course_replay, course_moments, judged_at, form_given, form_kept}
+use Rattle.runs.proofs.Placing.{view_amount, booked_view, seen_booked, own_of, places_of, met_view, met_went, Left, placed_left}
+use Rattle.runs.proofs.Taping.{Moments, Given, given_more, given_one_more, replay_append, trades_append, trades_trading, moments_append, course_replay, course_moments, judged_at, form_given, form_kept}
 use Rattle.runs.proofs.Withdrawing.{amount_in}
-use Rattle.runs.specs.Days.{Made, noted, made, if_taken, trading, ending, looked_after, entry_tape, happened}
-use Rattle.runs.specs.Law.{if_number, traded_in}
+use Rattle.runs.specs.Days.{noted, made, if_taken, trading, looked_after, entry_tape, happened}
+use Rattle.runs.specs.Law.{traded_in}
 use Rattle.runs.specs.Tapes as tape
 use Rattle.runs.specs.Tapes.{Tape, replay_all, trades_in, form_of, trade_made}
 use Rattle.runs.specs.declared.call.Call.TheVariants.{Enter}
-use Rattle.runs.specs.declared.call.Line.{Line}
 use Rattle.runs.specs.declared.call.Line.TheVariants as line
 
 -- What a form that exists is: its bound is a price, and its shares fit a book

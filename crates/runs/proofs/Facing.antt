@@ -1,13 +1,12 @@
 -- Both sides by one argument: what the rule of a side gives, and four books as an order of one side sees them.
-use Rattle.std.proofs.Common.{◌≡◌, ℕ, ◌<◌, ◌≤◌, Bool, true, false, cond, not, ltb, leb, List, Option, refl, arith}
+use Rattle.std.proofs.Common.{◌≡◌, ℕ, ◌≤◌, Bool, true, false, Option, refl, arith}
 use Rattle.std.proofs.lemmas.Bool.Decides.{nat_tests}
-use Rattle.books.specs.declared.standing.Standing.{Standing}
 use Rattle.market.specs.Sets.{met_rule, own_rule, own_list, seen_from, facing}
 use Rattle.matching.specs.Looking.{Books}
 use Rattle.matching.specs.Placing.{View}
 use Rattle.matching.specs.declared.trade.Trade.{Trade}
 use Rattle.rules.specs.Better.{on, placed, first_of, best_of}
-use Rattle.rules.specs.Sides.{Rule, Lawful, bids, asks, reaches}
+use Rattle.rules.specs.Sides.{Rule, Lawful, bids, asks}
 use Rattle.rules.specs.declared.price.Quote.{Quote}
 use Rattle.rules.specs.declared.terms.SideName.{SideName}
 use Rattle.rules.specs.declared.terms.SideName.TheVariants.{Bid, Ask}

@@ -1,5 +1,5 @@
 -- A trade at its moment: what matching and looking over see to before they make it.
-use Rattle.std.proofs.Common.{◌≡◌, ℕ, ◌+◌, ◌/◌, ◌<◌, ◌≤◌, min, Bool, true, false, cond, not, ◌&&◌, ◌||◌, eqb, ◌⊎◌, List, [], ◌∷◌, Some, None, Option, sym, refl, ap, ◌∙◌, subst, ⊎_elim, arith}
+use Rattle.std.proofs.Common.{◌≡◌, ℕ, ◌/◌, ◌<◌, ◌≤◌, Bool, true, false, cond, ◌&&◌, List, [], ◌∷◌, Some, None, Option, sym, refl, ap, ◌∙◌, subst, ⊎_elim, arith}
 use Rattle.std.proofs.lemmas.Bool.{cases_Bool, both_ways, and_parts, and_from, or_cases, or_right, not-true, not_from_false, cond_both}
 use Rattle.books.proofs.Past.{each_map}
 use Rattle.books.specs.Ranks.{not_both, before}
@@ -8,7 +8,7 @@ use Rattle.books.specs.Lists.{find}
 use Rattle.books.specs.declared.standing.Standing.{Standing}
 use Rattle.matching.proofs.Fronts.{none_some, some_same, opens, candidate_front}
 use Rattle.matching.specs.Looking.{pair, trade_of}
-use Rattle.matching.specs.Matching.{Scene, at_or_ahead, spared, front_price, front_if, best_against, displayed_passes, dark_passes, displayed_candidate, dark_candidate, displayed_one, dark_one, chosen, candidate, trade_with}
+use Rattle.matching.specs.Matching.{Scene, at_or_ahead, spared, front_price, front_if, best_against, dark_passes, displayed_candidate, dark_candidate, displayed_one, dark_one, chosen, candidate, trade_with}
 use Rattle.matching.specs.declared.candidate.Around.{Around}
 use Rattle.matching.specs.declared.candidate.Candidate.{Candidate}
 use Rattle.matching.specs.declared.candidate.Entry.{Entry}

@@ -1,17 +1,16 @@
 -- The law of every run, call by call.
-use Rattle.std.proofs.Common.{◌≡◌, ℕ, zero, suc, ◌+◌, ◌<◌, ◌≤◌, Bool, true, false, cond, ◌&&◌, eqb, leb, List, [], ◌∷◌, ◌++◌, length, take, sym, refl, ap, ◌∙◌, subst, arith}
+use Rattle.std.proofs.Common.{◌≡◌, ℕ, ◌+◌, ◌≤◌, false, ◌&&◌, eqb, leb, List, [], ◌∷◌, ◌++◌, length, take, sym, refl, ap, ◌∙◌, subst, arith}
 use Rattle.std.proofs.lemmas.Bool.{cond_both}
 use Rattle.std.proofs.lemmas.Bool.Decides.{nat_tests}
 use Rattle.books.specs.Arranging.{tally}
 use Rattle.books.specs.Histories.{Each}
-use Rattle.books.specs.Lists.{AllSound, sound}
+use Rattle.books.specs.Lists.{AllSound}
 use Rattle.books.specs.declared.standing.Standing.{Standing}
 use Rattle.market.specs.Calls.{State, fresh}
 use Rattle.market.specs.Sets.{Rooms}
 use Rattle.matching.specs.Looking.{Books}
 use Rattle.matching.specs.Trades.{written}
 use Rattle.matching.specs.declared.trade.Trade.{Trade}
-use Rattle.rules.specs.Sheets.{increment_at}
 use Rattle.rules.specs.declared.sheet.DaySheet.{DaySheet}
 use Rattle.runs.proofs.Calling.{Sane, CallKept, cancel_kept, notice_kept, aside_kept, halt_kept, resume_kept, close_kept}
 use Rattle.runs.proofs.Entering.{enter_kept, traded_append}
@@ -19,8 +18,8 @@ use Rattle.runs.proofs.Looking.{neat_unmet, neat_below}
 use Rattle.runs.proofs.Neat.{Neat}
 use Rattle.runs.proofs.Taping.{Moments, replay_append, trades_append, moments_append, every_trade, Given}
 use Rattle.runs.proofs.Withdrawing.{amount_in, open_amount}
-use Rattle.runs.specs.Days.{Made, made, happened, count_in, wrote, Asked, Day, day}
-use Rattle.runs.specs.Law.{entered_in, cancelled_in, traded_in, tally_in, Orderly, Law, LawOfRuns}
+use Rattle.runs.specs.Days.{Made, made, happened, wrote, Asked, Day, day}
+use Rattle.runs.specs.Law.{entered_in, cancelled_in, traded_in, tally_in, Orderly, LawOfRuns}
 use Rattle.runs.specs.Tapes.{Tape, replay_all, trades_in}
 use Rattle.runs.specs.declared.call.Call.{Call}
 use Rattle.runs.specs.declared.call.Call.TheVariants.{Enter, Cancel, Notice, SetAside, Halt, Resume, Close}

@@ -1,6 +1,6 @@
 -- Looking over the books, pair by pair.
-use Rattle.std.proofs.Common.{◌≡◌, ℕ, ◌+◌, ◌-◌, ◌<◌, ◌≤◌, min, Bool, true, false, cond, not, ◌&&◌, ltb, leb, ◌⊎◌, List, [], ◌∷◌, Some, None, Option, sym, refl, ap, ◌∙◌, subst, inl, inr, ⊎_elim, arith}
-use Rattle.std.proofs.lemmas.Bool.{cases_Bool, both_ways, and_from, not_from_false, not-true, ltb-true, lt-ltb, le-ltb, ltb-false}
+use Rattle.std.proofs.Common.{◌≡◌, ℕ, ◌+◌, ◌<◌, ◌≤◌, Bool, true, false, cond, ◌&&◌, ltb, List, [], ◌∷◌, Some, None, Option, sym, refl, ap, ◌∙◌, subst, inl, inr, ⊎_elim, arith}
+use Rattle.std.proofs.lemmas.Bool.{cases_Bool, both_ways, and_from, not_from_false, ltb-true, le-ltb}
 use Rattle.std.proofs.lemmas.Bool.Decides.{nat_tests}
 use Rattle.books.proofs.Past.{each_map}
 use Rattle.books.specs.Ranks.{before}
@@ -25,12 +25,12 @@ use Rattle.rules.specs.declared.price.Quote.{Quote}
 use Rattle.rules.specs.declared.terms.SideName.{SideName}
 use Rattle.rules.specs.declared.terms.SideName.TheVariants.{Bid, Ask}
 use Rattle.runs.proofs.Courses.{Stepped, Went, went, steps_end}
-use Rattle.runs.proofs.Facing.{lawful_bids, lawful_asks, met_lawful, best_is, opposite, view_made, seen_made, seen_facing, JudgedIn, PairedIn, seen_judged}
-use Rattle.runs.proofs.Judging.{Judged, pair_judged}
-use Rattle.runs.proofs.Lowering.{amount, Good, at_front, untouched, front_tally, front_amount, front_good, front_each, front_stands, standing_touched, active_touched}
+use Rattle.runs.proofs.Facing.{lawful_bids, lawful_asks, met_lawful, best_is, view_made, seen_made, seen_facing, JudgedIn, PairedIn, seen_judged}
+use Rattle.runs.proofs.Judging.{pair_judged}
+use Rattle.runs.proofs.Lowering.{amount, at_front, untouched, front_tally, front_amount, front_good, front_each, front_stands, standing_touched, active_touched}
 use Rattle.runs.proofs.Neat.{NeatView, Neat, neat_facing, neat_seen}
 use Rattle.runs.proofs.Withdrawing.{amount_in}
-use Rattle.runs.specs.Law.{StandsBefore, BidsBelowAsks, NoneMeets, if_number, traded_in, tally_in}
+use Rattle.runs.specs.Law.{StandsBefore, BidsBelowAsks, NoneMeets, if_number, traded_in}
 use Rattle.runs.specs.Tapes.{trade_made}
 
 -- The trade of a pair: the front displayed order of one side, and the front dark order against it

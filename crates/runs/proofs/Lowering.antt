@@ -1,11 +1,11 @@
 -- Lists of standing orders when shares are taken from an order by its number, and when one is put in.
-use Rattle.std.proofs.Common.{◌≡◌, ℕ, ◌+◌, ◌-◌, ◌<◌, ◌≤◌, Bool, true, false, cond, eqb, leb, List, [], ◌∷◌, is_some, Some, None, Option, sym, refl, ap, ◌∙◌, subst, arith}
-use Rattle.std.proofs.lemmas.Bool.{eq-eqb, eqb-true, eqb-false, ne_eqb, cond-true, cond_both, both_ways}
+use Rattle.std.proofs.Common.{◌≡◌, ℕ, ◌+◌, ◌-◌, ◌<◌, ◌≤◌, Bool, true, false, cond, eqb, List, [], ◌∷◌, Some, sym, refl, ap, ◌∙◌, subst, arith}
+use Rattle.std.proofs.lemmas.Bool.{eq-eqb, eqb-true, ne_eqb, cond-true, cond_both, both_ways}
 use Rattle.books.proofs.Past.{each_map, each_put}
 use Rattle.books.specs.Ranks.{not_both, before}
 use Rattle.books.specs.Arranging.{tally}
 use Rattle.books.specs.Histories.{Each, Pairs}
-use Rattle.books.specs.Lists.{AllSound, front_of, find, stands, put, less, reduced, taken, without, sound}
+use Rattle.books.specs.Lists.{AllSound, front_of, find, put, less, reduced, taken, sound}
 use Rattle.books.specs.declared.standing.Standing.{Standing}
 use Rattle.market.proofs.Fitting.{put_sound}
 use Rattle.matching.proofs.Fronts.{none_some, some_same, taken_is, taken_sound}

@@ -1,16 +1,16 @@
 -- Matching an entry, trade by trade.
-use Rattle.std.proofs.Common.{◌≡◌, ℕ, ◌+◌, ◌-◌, ◌<◌, ◌≤◌, min, Bool, true, false, cond, eqb, List, [], ◌∷◌, length, Some, None, Option, sym, refl, ap, ◌∙◌, subst, arith}
+use Rattle.std.proofs.Common.{◌≡◌, ℕ, ◌+◌, ◌-◌, ◌<◌, ◌≤◌, Bool, true, false, cond, eqb, List, [], ◌∷◌, Some, None, Option, sym, refl, ap, ◌∙◌, subst, arith}
 use Rattle.std.proofs.lemmas.Bool.{ne_eqb}
 use Rattle.books.proofs.Past.{each_map}
 use Rattle.books.specs.Arranging.{tally}
 use Rattle.books.specs.Histories.{Each}
-use Rattle.books.specs.Lists.{front_of, taken, reduced}
+use Rattle.books.specs.Lists.{front_of, taken}
 use Rattle.books.specs.declared.standing.Standing.{Standing}
 use Rattle.market.specs.Sets.{met_rule, seen_from}
 use Rattle.matching.proofs.Fronts.{none_some, some_same, shares_open, candidate_front}
 use Rattle.matching.proofs.Turns.{standing, stands, fewer, positive, holds_shares, Sounds, after_sound}
 use Rattle.matching.specs.Looking.{Books}
-use Rattle.matching.specs.Matching.{Scene, front_price, candidate, trade_with, displayed_after, dark_after, traded, trade_step, match_step, matched}
+use Rattle.matching.specs.Matching.{Scene, front_price, candidate, trade_with, traded, trade_step, match_step, matched}
 use Rattle.matching.specs.Placing.{View}
 use Rattle.matching.specs.Trades.{Step}
 use Rattle.matching.specs.declared.candidate.Around.{Around}
@@ -26,7 +26,7 @@ use Rattle.runs.proofs.Judging.{match_judged}
 use Rattle.runs.proofs.Lowering.{amount, Good, fresh_tally, untouched, front_tally, front_amount, front_good, front_each, front_stands, standing_touched}
 use Rattle.runs.proofs.Neat.{Clear}
 use Rattle.runs.specs.Law.{if_number, traded_in}
-use Rattle.runs.specs.Tapes.{after_trade, trade_made}
+use Rattle.runs.specs.Tapes.{trade_made}
 
 -- Matching ends only where no candidate is left
 

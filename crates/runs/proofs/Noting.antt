@@ -1,5 +1,5 @@
 -- The records that are noted of a call are those that it wrote.
-use Rattle.std.proofs.Common.{◌≡◌, ℕ, zero, suc, ◌-◌, ◌≤◌, min, List, [], ◌∷◌, ◌++◌, length, take, sym, refl, ap, ◌∙◌, arith}
+use Rattle.std.proofs.Common.{◌≡◌, ℕ, zero, suc, ◌-◌, min, List, [], ◌∷◌, ◌++◌, length, take, refl, ap, ◌∙◌, arith}
 use Rattle.market.specs.Calls.{State}
 use Rattle.matching.specs.Trades.{written}
 use Rattle.matching.specs.declared.trade.Trade.{Trade}

@@ -1,5 +1,5 @@
 -- An entry from matching to the end of its rest: what it leaves is neat, and every share is accounted for.
-use Rattle.std.proofs.Common.{◌≡◌, ℕ, ◌+◌, ◌-◌, ◌<◌, ◌≤◌, Bool, true, false, cond, not, ◌&&◌, eqb, ltb, leb, List, [], ◌∷◌, length, is_some, Some, None, Option, sym, refl, ap, ◌∙◌, subst, ⊎_elim, arith}
+use Rattle.std.proofs.Common.{◌≡◌, ℕ, ◌+◌, ◌≤◌, Bool, true, false, cond, not, ◌&&◌, eqb, ltb, leb, List, [], ◌∷◌, length, is_some, Some, sym, refl, ap, ◌∙◌, subst, ⊎_elim, arith}
 use Rattle.std.proofs.lemmas.Bool.{both_ways, and_from, and_cases, eqb-true, eqb-false, le-leb, not-false, not_from_false}
 use Rattle.books.proofs.Outcomes.{added_fit}
 use Rattle.books.proofs.Past.{each_put}
@@ -9,12 +9,11 @@ use Rattle.books.specs.Lists.{sound, stands, find, put, added}
 use Rattle.books.specs.declared.standing.Standing.{Standing}
 use Rattle.market.specs.Sets.{met_rule, own_rule, seen_from}
 use Rattle.matching.proofs.Turns.{matched_shares}
-use Rattle.matching.specs.Matching.{Scene, front_price, match_step, at_or_ahead}
+use Rattle.matching.specs.Matching.{Scene, front_price, match_step}
 use Rattle.matching.specs.Placing.{View, Placed, around_in, met, rest_of, is_booked, booked_in, placed}
 use Rattle.matching.specs.Trades.{Steps}
 use Rattle.matching.specs.Ways.{way_of, way_cancelled, reached}
 use Rattle.matching.specs.declared.candidate.Entry.{Entry}
-use Rattle.matching.specs.declared.way.Rest.{Rest}
 use Rattle.matching.specs.declared.way.Way.{Way}
 use Rattle.matching.specs.declared.way.Way.TheVariants.{Filled, Booked, Immediate, AwayBest, OwnFront}
 use Rattle.rules.specs.Better.{on}
@@ -26,9 +25,9 @@ use Rattle.rules.specs.declared.terms.SideName.TheVariants.{Bid, Ask}
 use Rattle.runs.proofs.Courses.{Went}
 use Rattle.runs.proofs.Facing.{met_lawful, own_lawful, best_is, MatchedIn}
 use Rattle.runs.proofs.Judging.{before_all}
-use Rattle.runs.proofs.Lowering.{amount, Good, fresh_tally, later_good, tally_put, amount_put, put_good}
+use Rattle.runs.proofs.Lowering.{amount, fresh_tally, later_good, tally_put, amount_put, put_good}
 use Rattle.runs.proofs.Meeting.{books_of, Fit, weigh, match_went}
-use Rattle.runs.proofs.Neat.{Clear, NeatView}
+use Rattle.runs.proofs.Neat.{NeatView}
 use Rattle.runs.proofs.Withdrawing.{zero_if}
 use Rattle.runs.specs.Law.{StandsBefore, if_number, traded_in}
 use Rattle.runs.specs.Tapes.{trade_made, with_booked}

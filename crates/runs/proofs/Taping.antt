@@ -1,17 +1,16 @@
 -- Tapes: replaying one after another, and the moments of their trades.
-use Rattle.std.proofs.Common.{◌≡◌, ℕ, ◌+◌, ◌<◌, ◌≤◌, Bool, true, false, cond, not, eqb, List, [], ◌∷◌, ◌++◌, Some, None, Option, sym, refl, ap, ◌∙◌, subst, ⊎_elim, append_assoc, append-nil, arith}
+use Rattle.std.proofs.Common.{◌≡◌, ℕ, ◌+◌, ◌<◌, ◌≤◌, Bool, true, false, cond, not, List, [], ◌∷◌, ◌++◌, Some, None, Option, sym, refl, ap, ◌∙◌, subst, ⊎_elim, append_assoc, append-nil, arith}
 use Rattle.std.proofs.lemmas.Bool.{eq-eqb, cases_lt}
 use Rattle.books.specs.Lists.{find}
 use Rattle.market.specs.Calls.{State, with_books}
 use Rattle.market.specs.Quoting.{away_of}
 use Rattle.market.specs.Sets.{own_rule, own_list}
-use Rattle.matching.specs.Looking.{Books, best_in}
+use Rattle.matching.specs.Looking.{Books}
 use Rattle.matching.specs.Matching.{front_price}
 use Rattle.matching.specs.declared.trade.Trade.{Trade}
 use Rattle.rules.specs.Better.{better, best_of, placed}
 use Rattle.rules.specs.Forms.{large}
 use Rattle.rules.specs.declared.form.Form.{Form}
-use Rattle.rules.specs.declared.price.Quote.{Quote}
 use Rattle.rules.specs.declared.terms.SideName.{SideName}
 use Rattle.rules.specs.declared.terms.SideName.TheVariants.{Bid, Ask}
 use Rattle.runs.proofs.Courses.{Course}

@@ -1,10 +1,10 @@
 -- An order found by its number in four books, and taken out of them.
-use Rattle.std.proofs.Common.{◌≡◌, ℕ, ◌+◌, ◌≤◌, Bool, true, false, cond, eqb, List, [], ◌∷◌, Some, None, Option, sym, refl, ap, ◌∙◌, arith}
+use Rattle.std.proofs.Common.{◌≡◌, ℕ, ◌+◌, ◌≤◌, Bool, true, false, cond, eqb, List, [], ◌∷◌, Some, None, Option, refl, ap, ◌∙◌, arith}
 use Rattle.std.proofs.lemmas.Bool.{eqb-true}
 use Rattle.books.proofs.Past.{each_without, pairs_without}
 use Rattle.books.specs.Arranging.{tally}
-use Rattle.books.specs.Histories.{Each, Pairs}
-use Rattle.books.specs.Lists.{AllSound, find, without, removed, removed_found}
+use Rattle.books.specs.Histories.{Each}
+use Rattle.books.specs.Lists.{AllSound, find, without, removed_found}
 use Rattle.books.specs.declared.standing.Standing.{Standing}
 use Rattle.market.specs.Calls.{shares_of}
 use Rattle.market.specs.Sets.{first_found, find_either, find_in, unless_found, without_in}

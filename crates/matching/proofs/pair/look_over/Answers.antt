@@ -1,5 +1,4 @@
 use Rattle.std.proofs.Common.{sym, refl, ◌∙◌, arith}
-use Rattle.matching.specs.Looking.{Books}
 use Rattle.matching.proofs.Pairs.{looking_none, looking_turn, looking_all, turn_fewer}
 use Rattle.matching.proofs.pair.look_over.Goals as goal
 

@@ -1,4 +1,4 @@
-use Rattle.std.proofs.Common.{◌≡◌, length, vec_items}
+use Rattle.std.proofs.Common.{length, vec_items}
 use Rattle.std.specs.Vec.Iter.{into_iter_items, into_iter_len}
 use Rattle.runs.proofs.Progress.{Progress}
 use Rattle.runs.proofs.play.play_turns.Given as goal
