@@ -6,7 +6,7 @@ set -u
 root=$(cd "$(dirname "$0")/.." && pwd)
 copy=$(mktemp -d)
 trap 'rm -rf "$copy"' EXIT
-cp -r "$root/crates" "$root/crates.txt" "$copy/"
+tar -C "$root" --exclude=out -cf - crates crates.txt | tar -C "$copy" -xf -
 failed=0
 for edit in "$root"/checks/refused/*.edit; do
   label=$(basename "$edit" .edit)
@@ -23,8 +23,8 @@ for edit in "$root"/checks/refused/*.edit; do
       printf "%s%s%s", substr(text, 1, at - 1), ENVIRON["NEW"], rest
     }' "$root/$file" >"$copy/$file"
   then
-    (cd "$copy" && rt dev "$crate") >"$copy/log" 2>&1
-    if grep -q "$file.*error\[$error\]" "$copy/log"; then
+    (cd "$copy/crates/$crate" && rt check) >"$copy/log" 2>&1
+    if grep -q "${file#crates/"$crate"/}.*error\[$error\]" "$copy/log"; then
       echo "refused: $label ($error)"
     else
       echo "NOT REFUSED as it should be: $label"

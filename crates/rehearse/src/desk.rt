@@ -38,12 +38,12 @@ fn understand(heap: Global, bytes: &[u8]) -> Result<Option<Command>, AllocError>
 }
 
 impl Desk {
-    pub fn new(rt: &HostRuntime) -> Result<Desk, AllocError> {
+    pub fn new(rt: &HostRuntime) -> io::Result<Desk> {
         let heap = rt.alloc();
         Ok(Desk {
             heap,
-            input: BufReader::new(heap, rt.stdin()).map_err(|_| std::alloc::AllocError)?,
-            output: BufWriter::new(heap, rt.stdout()).map_err(|_| std::alloc::AllocError)?,
+            input: BufReader::new(heap, rt.stdin())?,
+            output: BufWriter::new(heap, rt.stdout())?,
             line: Vec::new(heap),
             list: vec![in heap; BLANK; LIST]?,
             lent: LIST,
