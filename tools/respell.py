@@ -1,5 +1,6 @@
 #!/usr/bin/env python3
-"""Spells the repository's own definitions and lemmas in snake case, as 'better-than' to 'better_than'.
+"""Spells the repository's own definitions and lemmas in snake case, as 'better-than' to 'better_than' and
+'cutOut' to 'cut_out'.
 
 usage: tools/respell.py            in the repository: rewrites crates/ and the pages in place
        tools/respell.py --check    says what would fall together, and writes nothing
@@ -19,7 +20,7 @@ EDGE = r'(?<![^\s(){}.;,@"«»λ])'
 END = r'(?![^\s(){}.;,@"«»])'
 # A declaration: 'pub name : ..', also with several names, in braces or behind 'data', 'record', 'let', '∷', and so on.
 DECLARED = re.compile(rf'((?:{WORD} +)*{WORD}) *:(?![:=])')
-HYPHENED = re.compile(r"^[A-Za-z][\w']*(?:-[\w']+)+$")
+OTHER = re.compile(r"^(?:[A-Za-z][\w']*(?:-[\w']+)+|[a-z][a-z0-9]*(?:[A-Z][a-z0-9]*)+)$")
 QUIET = re.compile(r'(?<![^\s(){}.;,@"«»])--[^\n]*')
 
 
@@ -45,12 +46,12 @@ def declared():
         with open(path) as f:
             text = code(f.read())
         for m in DECLARED.finditer(text):
-            found.update(w for w in re.findall(WORD, m.group(1)) if HYPHENED.match(w))
+            found.update(w for w in re.findall(WORD, m.group(1)) if OTHER.match(w))
         # a definition by an equation at the head of a line, and the variables of its patterns
         for line in text.splitlines():
             if ' = ' in line or line.rstrip().endswith(' ='):
                 head = line.split(' =')[0]
-                found.update(w for w in re.findall(WORD, head) if HYPHENED.match(w))
+                found.update(w for w in re.findall(WORD, head) if OTHER.match(w))
     return found
 
 
@@ -58,7 +59,7 @@ def main(argv):
     check = argv == ['--check']
     names = declared()
     edits = {os.path.basename(p)[:-len('.edit')] for p in files('crates/*/must-fail/*.edit')}
-    table = {n: n.replace('-', '_') for n in names}
+    table = {n: re.sub(r'(?<=[a-z0-9])[A-Z]', lambda m: '_' + m.group().lower(), n).replace('-', '_') for n in names}
     spelled = collections.defaultdict(list)
     for old, new in table.items():
         spelled[new].append(old)

@@ -124,12 +124,12 @@ length_put b k (x ∷ xs) =
 
 -- The first index that passes cut out
 
-abbrev pub cutOut : (ℕ → Bool) → List ℕ → List ℕ
-cutOut b [] = []
-cutOut b (x ∷ xs) = cond (b x) xs (x ∷ cutOut b xs)
+abbrev pub cut_out : (ℕ → Bool) → List ℕ → List ℕ
+cut_out b [] = []
+cut_out b (x ∷ xs) = cond (b x) xs (x ∷ cut_out b xs)
 
 -- g leads from where the walk stops past what it found, and elsewhere as f does
-pub chain_cut : (b : ℕ → Bool) (f g : ℕ → ℕ) (s : ℕ) (xs : List ℕ) → Chain f (f s) xs → ((j : ℕ) → times j (s ∷ xs) ≤ 1) → 0 < first b xs → g (stop b s xs) ≡ f (first b xs) → ((j : ℕ) → j ≢ stop b s xs → g j ≡ f j) → Chain g (g s) (cutOut b xs)
+pub chain_cut : (b : ℕ → Bool) (f g : ℕ → ℕ) (s : ℕ) (xs : List ℕ) → Chain f (f s) xs → ((j : ℕ) → times j (s ∷ xs) ≤ 1) → 0 < first b xs → g (stop b s xs) ≡ f (first b xs) → ((j : ℕ) → j ≢ stop b s xs → g j ≡ f j) → Chain g (g s) (cut_out b xs)
 chain_cut b f g s [] c once some past else = absurd (omega arith)
 chain_cut b f g s (x ∷ xs) c once some past else =
     let apart : (j : ℕ) → 0 < times j (x ∷ xs) → j ≢ s =
@@ -140,7 +140,7 @@ chain_cut b f g s (x ∷ xs) c once some past else =
     let rest : Chain g (f x) xs =
     frame f g (f x) xs (λ j h. else j (λ e. apart j (omega (arith, times_tail j x xs)) (e ∙ st))) c.2 in
     subst (λ y. Chain g y xs) (sym (ap g (sym st) ∙ past ∙ ap f fi)) rest in
-    let later : b x ≡ false → Chain g (g s) (x ∷ cutOut b xs) = λ t.
+    let later : b x ≡ false → Chain g (g s) (x ∷ cut_out b xs) = λ t.
     let st : stop b s (x ∷ xs) ≡ stop b x xs = cond-false (b x) s (stop b x xs) t in
     let fi : first b (x ∷ xs) ≡ first b xs = cond-false (b x) x (first b xs) t in
     let sx : s ≢ x = λ e. apart x (omega (arith, times_here x xs)) (sym e) in
@@ -151,31 +151,31 @@ chain_cut b f g s (x ∷ xs) c once some past else =
       chain_cut b f g x xs c.2 (λ j. omega (arith, once j, times_tail j s (x ∷ xs))) (omega (arith, fi))
           (ap g (sym st) ∙ past ∙ ap f fi) (λ j ns. else j (λ e. ns (e ∙ st))),
     ) in
-    cond_both (b x) xs (x ∷ cutOut b xs) (λ ys. Chain g (g s) ys) here later
+    cond_both (b x) xs (x ∷ cut_out b xs) (λ ys. Chain g (g s) ys) here later
 
-pub times_cut : (b : ℕ → Bool) (j : ℕ) (xs : List ℕ) → 0 < first b xs → times j (first b xs ∷ cutOut b xs) ≡ times j xs
+pub times_cut : (b : ℕ → Bool) (j : ℕ) (xs : List ℕ) → 0 < first b xs → times j (first b xs ∷ cut_out b xs) ≡ times j xs
 times_cut b j [] some = absurd (omega arith)
 times_cut b j (x ∷ xs) some =
-    let here : b x ≡ true → times j (first b (x ∷ xs) ∷ cutOut b (x ∷ xs)) ≡ times j (x ∷ xs) = λ t. simp t in
-    let later : b x ≡ false → times j (first b (x ∷ xs) ∷ cutOut b (x ∷ xs)) ≡ times j (x ∷ xs) = λ t.
+    let here : b x ≡ true → times j (first b (x ∷ xs) ∷ cut_out b (x ∷ xs)) ≡ times j (x ∷ xs) = λ t. simp t in
+    let later : b x ≡ false → times j (first b (x ∷ xs) ∷ cut_out b (x ∷ xs)) ≡ times j (x ∷ xs) = λ t.
     let fi : first b (x ∷ xs) ≡ first b xs = cond-false (b x) x (first b xs) t in
-    let ih : times j (first b xs ∷ cutOut b xs) ≡ times j xs = times_cut b j xs (omega (arith, fi)) in
+    let ih : times j (first b xs ∷ cut_out b xs) ≡ times j xs = times_cut b j xs (omega (arith, fi)) in
     simp t (omega arith) in
     ⊎_elim here later (cases_Bool (b x))
 
-pub length_cut : (b : ℕ → Bool) (xs : List ℕ) → 0 < first b xs → 1 + length (cutOut b xs) ≡ length xs
+pub length_cut : (b : ℕ → Bool) (xs : List ℕ) → 0 < first b xs → 1 + length (cut_out b xs) ≡ length xs
 length_cut b [] some = absurd (omega arith)
 length_cut b (x ∷ xs) some =
-    let here : b x ≡ true → 1 + length (cutOut b (x ∷ xs)) ≡ length (x ∷ xs) = λ t. simp t (omega arith) in
-    let later : b x ≡ false → 1 + length (cutOut b (x ∷ xs)) ≡ length (x ∷ xs) = λ t.
+    let here : b x ≡ true → 1 + length (cut_out b (x ∷ xs)) ≡ length (x ∷ xs) = λ t. simp t (omega arith) in
+    let later : b x ≡ false → 1 + length (cut_out b (x ∷ xs)) ≡ length (x ∷ xs) = λ t.
     let fi : first b (x ∷ xs) ≡ first b xs = cond-false (b x) x (first b xs) t in
-    let ih : 1 + length (cutOut b xs) ≡ length xs = length_cut b xs (omega (arith, fi)) in
+    let ih : 1 + length (cut_out b xs) ≡ length xs = length_cut b xs (omega (arith, fi)) in
     simp t (omega arith) in
     ⊎_elim here later (cases_Bool (b x))
 
 -- what the walk finds stands in the list
 pub first_in : (b : ℕ → Bool) (xs : List ℕ) → 0 < first b xs → 0 < times (first b xs) xs
-first_in b xs some = let e = times_cut b (first b xs) xs some in omega (arith, times_here (first b xs) (cutOut b xs))
+first_in b xs some = let e = times_cut b (first b xs) xs some in omega (arith, times_here (first b xs) (cut_out b xs))
 
 -- Indices one after the other
 

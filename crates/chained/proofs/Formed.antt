@@ -6,7 +6,7 @@ use Rattle.books.specs.declared.standing.Standing.{Standing}
 use Rattle.chained.specs.Links.{times, first, stop}
 use Rattle.chained.specs.Records.{next_of, free_of, order_of, line, idle, orders_in, Apart, Whole, Cleared, linked, unlinked}
 use Rattle.chained.specs.declared.record.Record.{Record}
-use Rattle.chained.proofs.Chain.{Chain, begins, not_zero, never_zero, frame, times_here, stop_in, put_in, cutOut, chain_put, chain_cut, times_put, length_put, times_cut, length_cut, first_in, up_from, chain_up, length_up, times_up}
+use Rattle.chained.proofs.Chain.{Chain, begins, not_zero, never_zero, frame, times_here, stop_in, put_in, cut_out, chain_put, chain_cut, times_put, length_put, times_cut, length_cut, first_in, up_from, chain_up, length_up, times_up}
 use Rattle.chained.proofs.Meant.{map_put, map_cut, map_same}
 use Rattle.chained.proofs.Moves.{line_chain, idle_chain, line_is, idle_is, inside, once, once_from, stop_below, length_linked, next_before, next_here, next_else, free_anchor, free_else, order_here, order_else, length_unlinked, past_before, past_else, back_anchor, back_here, back_else, order_unlinked}
 
@@ -121,11 +121,11 @@ module _ (rs : List Record) (b : ℕ → Bool) (apart : Apart rs) (whole : Whole
   pub unlink_before : stop b 0 (line rs) < length rs
   unlink_before = stop_below b 0 (line rs) (length rs) (omega (arith, unlink_here)) (λ k h. inside rs apart k (omega arith))
 
-  line_unlinked : line (unlinked rs (stop b 0 (line rs)) (first b (line rs))) ≡ cutOut b (line rs)
+  line_unlinked : line (unlinked rs (stop b 0 (line rs)) (first b (line rs))) ≡ cut_out b (line rs)
   line_unlinked =
       let p : ℕ = stop b 0 (line rs) in
       let k : ℕ = first b (line rs) in
-      line_is (unlinked rs p k) (cutOut b (line rs))
+      line_is (unlinked rs p k) (cut_out b (line rs))
       (chain_cut b (next_of rs) (next_of (unlinked rs p k)) 0 (line rs) (line_chain rs whole) (once_from rs apart whole) some
       (past_before rs p k unlink_before) (past_else rs p k))
       (omega (arith, length_cut b (line rs) some, length_unlinked rs p k, whole))
@@ -149,19 +149,19 @@ module _ (rs : List Record) (b : ℕ → Bool) (apart : Apart rs) (whole : Whole
   formed_unlinked =
       let p : ℕ = stop b 0 (line rs) in
       let k : ℕ = first b (line rs) in
-      formed (unlinked rs p k) (cutOut b (line rs)) (k ∷ idle rs) (length rs) (length_unlinked rs p k) line_unlinked idle_unlinked
+      formed (unlinked rs p k) (cut_out b (line rs)) (k ∷ idle rs) (length rs) (length_unlinked rs p k) line_unlinked idle_unlinked
       (λ j. omega (arith, apart j, times_cut b j (line rs) some))
       (omega (arith, length_cut b (line rs) some, whole))
 
   pub count_unlinked : length (line (unlinked rs (stop b 0 (line rs)) (first b (line rs)))) + 1 ≡ length (line rs)
   count_unlinked = omega (arith, ap length line_unlinked, length_cut b (line rs) some)
 
-  pub orders_cut : orders_in (unlinked rs (stop b 0 (line rs)) (first b (line rs))) ≡ map (order_of rs) (cutOut b (line rs))
+  pub orders_cut : orders_in (unlinked rs (stop b 0 (line rs)) (first b (line rs))) ≡ map (order_of rs) (cut_out b (line rs))
   orders_cut =
       let p : ℕ = stop b 0 (line rs) in
       let k : ℕ = first b (line rs) in
       ap (map (order_of (unlinked rs p k))) line_unlinked
-      ∙ map_same (order_of rs) (order_of (unlinked rs p k)) (cutOut b (line rs)) (λ j h. order_unlinked rs p k j)
+      ∙ map_same (order_of rs) (order_of (unlinked rs p k)) (cut_out b (line rs)) (λ j h. order_unlinked rs p k j)
 
 -- with the order of a number cut out
 pub orders_unlinked : (rs : List Record) (number : ℕ) → Apart rs → Whole rs → 0 < first (λ j. eqb (order_of rs j).number number) (line rs) → orders_in (unlinked rs (stop (λ j. eqb (order_of rs j).number number) 0 (line rs)) (first (λ j. eqb (order_of rs j).number number) (line rs))) ≡ without number (orders_in rs)

@@ -12,7 +12,7 @@ use Rattle.chained.specs.Laws.{length_orders}
 use Rattle.chained.specs.Records.{most_records, at, next_of, free_of, order_of, line, idle, orders_in, room_in, Apart, Whole, Cleared, all_sound, linked, unlinked, with_order}
 use Rattle.chained.specs.declared.chained.Chained.{Chained}
 use Rattle.chained.specs.declared.record.Record.{Record}
-use Rattle.chained.proofs.Chain.{Chain, cutOut, frame, never_zero, times_here}
+use Rattle.chained.proofs.Chain.{Chain, cut_out, frame, never_zero, times_here}
 use Rattle.chained.proofs.Columns.{at_same, at_other, keeps}
 use Rattle.chained.proofs.Meant.{map_same, find_some, find_none, all_put, all_without}
 use Rattle.chained.proofs.Moves.{line_chain, idle_chain, line_is, idle_is, once, length_linked, length_unlinked}
@@ -180,7 +180,7 @@ module _ (rs : List Record) (count : ℕ) (h : Held count rs) (some : next_of rs
   pub taken_whole : (rs' : List Record) (here count' : ℕ) → here ≡ next_of rs 0 → rs' ≡ unlinked rs 0 here → count' + 1 ≡ count → Removed (behind rs) rs rs' count'
   taken_whole rs' here count' e is fewer =
       cut_held any rs count h some_any (behind rs) rs' 0 here count'
-      (orders_cut rs any h.1.1.0 h.1.1.1.0 (omega (arith, some_any)) ∙ ap (λ xs. map (order_of rs) (cutOut any xs)) front_line)
+      (orders_cut rs any h.1.1.0 h.1.1.1.0 (omega (arith, some_any)) ∙ ap (λ xs. map (order_of rs) (cut_out any xs)) front_line)
       sound_parts.1 (sym stop_any) (e ∙ sym first_any) is fewer
 
   put_front : (o : Standing) (rs' : List Record) (here count' : ℕ) → sound o ≡ true → here ≡ next_of rs 0 → rs' ≡ with_order rs here o → count' ≡ count → Removed (o ∷ behind rs) rs rs' count'

@@ -6,7 +6,7 @@ use Rattle.books.specs.Lists.{find, put, without, sound}
 use Rattle.books.specs.declared.standing.Standing.{Standing}
 use Rattle.chained.specs.Links.{times, first}
 use Rattle.chained.specs.Records.{all_sound}
-use Rattle.chained.proofs.Chain.{put_in, cutOut, times_here, times_tail}
+use Rattle.chained.proofs.Chain.{put_in, cut_out, times_here, times_tail}
 
 -- equal along the list
 abbrev pub Agree : (p q : ℕ → Standing) → List ℕ → Type 0
@@ -36,11 +36,11 @@ map_put rule o p q k (x ∷ xs) here same =
     let tail = map_put rule o p q k xs here (agree_tail p q x xs same) in
     elim (b x) as Q [ true ↦ cc | false ↦ cc ]
 
-pub map_cut : (number : ℕ) (p q : ℕ → Standing) (xs : List ℕ) → Agree p q xs → map q (cutOut (λ j. eqb (p j).number number) xs) ≡ without number (map p xs)
+pub map_cut : (number : ℕ) (p q : ℕ → Standing) (xs : List ℕ) → Agree p q xs → map q (cut_out (λ j. eqb (p j).number number) xs) ≡ without number (map p xs)
 map_cut number p q [] same = refl
 map_cut number p q (x ∷ xs) same =
     let b : ℕ → Bool = λ j. eqb (p j).number number in
-    let Q : Bool → Type 0 = λ t. map q (cond t xs (x ∷ cutOut b xs)) ≡ cond t (map p xs) (p x ∷ without number (map p xs)) in
+    let Q : Bool → Type 0 = λ t. map q (cond t xs (x ∷ cut_out b xs)) ≡ cond t (map p xs) (p x ∷ without number (map p xs)) in
     let head = agree_head p q x xs same in
     let rest = map_same p q xs (agree_tail p q x xs same) in
     let tail = map_cut number p q xs (agree_tail p q x xs same) in
