@@ -8,7 +8,7 @@ use Rattle.rules.specs.declared.side.Side.{Ghosts}
 use Rattle.books.specs.Lists.{most_places, find, front_of, put, without, reduced, shares_at, sound}
 use Rattle.books.specs.declared.standing.Standing.{Standing}
 use Rattle.chained.specs.Links.{times, first, stop}
-use Rattle.chained.specs.Laws.{length_orders}
+use Rattle.chained.specs.Laws.{Held, length_orders}
 use Rattle.chained.specs.Records.{most_records, at, next_of, free_of, order_of, line, idle, orders_in, room_in, Apart, Whole, Cleared, all_sound, linked, unlinked, with_order}
 use Rattle.chained.specs.declared.chained.Chained.{Chained}
 use Rattle.chained.specs.declared.record.Record.{Record}
@@ -19,12 +19,6 @@ use Rattle.chained.proofs.Moves.{line_chain, idle_chain, line_is, idle_is, once,
 use Rattle.chained.proofs.Formed.{formed, line_cleared, formed_cleared, link_here, link_before, formed_linked, count_linked, orders_linked, unlink_here, unlink_before, formed_unlinked, count_unlinked, orders_cut, orders_unlinked}
 use Rattle.chained.proofs.Outcomes.{reduced_sound}
 use Rattle.chained.proofs.Steps.{from, along_starts, along_below, from_here, from_zero}
-
--- in the order of the book's ghost fields
-abbrev pub Held : (count : ℕ) → List Record → Type 0
-Held count rs =
-    (length rs ≤ most_records)
-    × ((count ≡ length (orders_in rs)) × (Apart rs × (Whole rs × ((all_sound (orders_in rs) ≡ true) × Unit {0}))))
 
 -- the shares at a price fit: at most 4,096 orders with at most 10,000,000 each
 shares_most : (price : ℕ) (os : List Standing) → all_sound os ≡ true → shares_at price os ≤ 10000000 * length os

@@ -1,7 +1,7 @@
 // The calls of a chained book.
 ghost use Rattle.std.specs.Prelude.{◌≡◌, ◌-◌, min, [], length, drop, nat_lt};
 ghost use Rattle.books.specs.Lists.{most_places, sound};
-ghost use Rattle.chained.specs.Laws.{kept_by};
+ghost use Rattle.chained.specs.Laws.{held_kept};
 ghost use Rattle.chained.specs.Records.{most_records, orders_in, room_in};
 
 use crate::chained::Chained;
@@ -80,7 +80,7 @@ impl<S: Side> Book for Chained<'_, S> {
 
     ghost room = { λ b. room_in b.chains.records.now };
 
-    ghost kept = { λ b. kept_by b.chains.records.now b.few b.whole b.sound };
+    ghost kept = { λ b. held_kept b.chains.records.now b.chains.count (b.few, (b.counted, (b.apart, (b.whole, (b.sound, tt))))) };
 
     fn empty(&mut self) {
         self.chains.clear();
