@@ -1,2 +1,7 @@
 pub mod Outcomes
 pub mod Past
+pub mod Ranks
+pub mod Keeping
+pub mod Arranged
+pub mod Spots
+pub mod Front

@@ -11,6 +11,13 @@ pub struct Standing {
 }
 
 impl Standing {
+    // What stands in a place where there is no order.
+    pub const BLANK: Standing = Standing {
+        number: 0,
+        price: 0,
+        shares: 0,
+    };
+
     // Whether a book can take the order: number, price and shares are there, and not too many shares.
     pub fn is_sound(&self) -> bool
         ensures { result ≡ sound self.now }

@@ -2,7 +2,7 @@
 use Rattle.std.proofs.Common.{◌≡◌, ℕ, ◌/◌, ◌<◌, ◌≤◌, Bool, true, false, cond, ◌&&◌, List, [], ◌∷◌, Some, None, Option, sym, refl, ap, ◌∙◌, subst, ⊎_elim, arith}
 use Rattle.std.proofs.lemmas.Bool.{cases_Bool, both_ways, and_parts, and_from, or_cases, or_right, not-true, not_from_false, cond_both}
 use Rattle.books.proofs.Past.{each_map}
-use Rattle.books.specs.Ranks.{not_both, before}
+use Rattle.books.proofs.Ranks.{not_both, before}
 use Rattle.books.specs.Histories.{Each, Pairs}
 use Rattle.books.specs.Lists.{find}
 use Rattle.books.specs.declared.standing.Standing.{Standing}

@@ -3,7 +3,7 @@ use Rattle.std.proofs.Common.{◌≡◌, ℕ, ◌+◌, ◌<◌, ◌≤◌, Bool,
 use Rattle.std.proofs.lemmas.Bool.{cases_Bool, both_ways, and_from, not_from_false, ltb-true, le-ltb}
 use Rattle.std.proofs.lemmas.Bool.Decides.{nat_tests}
 use Rattle.books.proofs.Past.{each_map}
-use Rattle.books.specs.Ranks.{before}
+use Rattle.books.proofs.Ranks.{before}
 use Rattle.books.specs.Arranging.{tally}
 use Rattle.books.specs.Histories.{Each, Pairs}
 use Rattle.books.specs.Lists.{AllSound, sound, front_of, taken}

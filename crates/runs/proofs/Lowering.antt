@@ -2,7 +2,7 @@
 use Rattle.std.proofs.Common.{◌≡◌, ℕ, ◌+◌, ◌-◌, ◌<◌, ◌≤◌, Bool, true, false, cond, eqb, List, [], ◌∷◌, Some, sym, refl, ap, ◌∙◌, subst, arith}
 use Rattle.std.proofs.lemmas.Bool.{eq-eqb, eqb-true, ne_eqb, cond-true, cond_both, both_ways}
 use Rattle.books.proofs.Past.{each_map, each_put}
-use Rattle.books.specs.Ranks.{not_both, before}
+use Rattle.books.proofs.Ranks.{not_both, before}
 use Rattle.books.specs.Arranging.{tally}
 use Rattle.books.specs.Histories.{Each, Pairs}
 use Rattle.books.specs.Lists.{AllSound, front_of, find, put, less, reduced, taken, sound}

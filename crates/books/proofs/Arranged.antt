@@ -1,19 +1,20 @@
 -- Orders by arrival, arranged by priority: what each question and change makes of them.
-use Rattle.std.specs.Prelude.{◌≡◌, ℕ, zero, suc, ◌+◌, ◌<◌, ◌≤◌, Bool, true, false, cond, not, ◌&&◌, List, [], ◌∷◌, ◌++◌, map, length, get_or, take, drop, is_some, Some, None, Option, ◌==◌, ◌≢◌, nat_eq, slice_index_or, slice_set, refl}
+use Rattle.std.specs.Prelude.{◌≡◌, ℕ, suc, ◌+◌, ◌<◌, ◌≤◌, Bool, true, false, cond, not, ◌&&◌, List, [], ◌∷◌, ◌++◌, map, length, get_or, take, drop, is_some, Some, None, Option, MatchOption, position, ◌==◌, ◌≢◌, nat_eq, slice_index_or, slice_set, refl}
 use Rattle.std.proofs.Common.{sym, ap, ◌∙◌, ⊎_elim, arith}
 use Rattle.std.proofs.lemmas.List.{take_more, set_split}
-use Rattle.std.specs.List.{remove}
-use Rattle.std.proofs.lemmas.Bool.{cases_Bool, both_ways, cond_both, and_parts, ne_eqb, eq-eqb}
+use Rattle.std.proofs.lemmas.List.Quantifiers.{position-Some}
+use Rattle.std.specs.List.{remove, position_or_len, sum_by, filter}
+use Rattle.std.proofs.lemmas.Grind.{common_steps}
+use Rattle.std.proofs.lemmas.Bool.{cases_Bool, cond_both, ne_eqb, eq-eqb, eqb-true}
 use Rattle.std.proofs.lemmas.Bool.Decides.{nat_tests}
 use Rattle.rules.specs.Sides.{Rule, Lawful}
-use Rattle.books.specs.Lists.{front_of, find, stands, shares_at, sound, put, without, less, reduced, AllSound}
-use Rattle.books.specs.Packing.{blank, held, less_at, closed_up, Place, Front}
-use Rattle.books.specs.declared.packed.arrivals.Arrivals.{Arrivals}
-use Rattle.books.specs.Arranging.{all_sound, tally, Distinct, arrange, arranged}
+use Rattle.books.specs.Lists.{front_of, find, stands, shares_at, sound, put, without, less, reduced}
+use Rattle.books.specs.Packing.{blank}
+use Rattle.books.specs.Arranging.{tally, Distinct, arrange, arranged}
 use Rattle.books.specs.declared.standing.Standing.{Standing}
-use Rattle.books.specs.Tallies.{tally_append}
-use Rattle.books.specs.Spots.{Good, below, read, held_less, held_closed, split_at, tally_split}
-use Rattle.books.specs.Ranks.{Runs, put_first, runs_put}
+use Rattle.books.specs.Laws.{sum_arrange}
+use Rattle.books.proofs.Keeping.{split_at, tally_append, tally_split}
+use Rattle.books.proofs.Ranks.{Runs, put_first, runs_put}
 
 pub arrange_append : (rule : Rule) (xs ys list : List Standing) →
     arrange rule (xs ++ ys) list ≡ arrange rule ys (arrange rule xs list)
@@ -24,56 +25,20 @@ pub runs_arrange : (rule : Rule) → Lawful rule → (xs list : List Standing) �
 runs_arrange rule law [] list r = r
 runs_arrange rule law (x ∷ xs) list r = runs_arrange rule law xs (put rule x list) (runs_put rule law x list r)
 
-shares_append : (price : ℕ) (xs ys : List Standing) → shares_at price (xs ++ ys) ≡ shares_at price xs + shares_at price ys
-shares_append price [] ys = omega arith
-shares_append price (x ∷ xs) ys = omega (arith, shares_append price xs ys)
-
-pub shares_more : (price : ℕ) (xs : List Standing) (i : ℕ) → i < length xs →
-    shares_at price (take (i + 1) xs) ≡
-    shares_at price (take i xs) + cond ((get_or xs i blank).price == price) (get_or xs i blank).shares 0
-shares_more price xs i l =
-    ap (shares_at price) (take_more xs i blank l) ∙ shares_append price (take i xs) (slice_index_or xs i blank ∷ []) ∙ omega arith
-
 -- Sums over the orders, in whatever order they stand
-
-sum_put : (F : List Standing → ℕ) (f : Standing → ℕ) → ((x : Standing) (xs : List Standing) → F (x ∷ xs) ≡ f x + F xs) →
-    (rule : Rule) (o : Standing) (xs : List Standing) → F (put rule o xs) ≡ f o + F xs
-sum_put F f e rule o [] = e o []
-sum_put F f e rule o (x ∷ xs) =
-    cond_both (rule.ahead o.price x.price) (o ∷ x ∷ xs) (x ∷ put rule o xs) (λ l. F l ≡ f o + F (x ∷ xs))
-    (λ _. e o (x ∷ xs))
-    (λ _. omega (arith, e x (put rule o xs), e x xs, sum_put F f e rule o xs))
-
-sum_arrange : (F : List Standing → ℕ) (f : Standing → ℕ) → ((x : Standing) (xs : List Standing) → F (x ∷ xs) ≡ f x + F xs) →
-    F [] ≡ 0 → (rule : Rule) (xs list : List Standing) → F (arrange rule xs list) ≡ F xs + F list
-sum_arrange F f e z rule [] list = omega arith
-sum_arrange F f e z rule (x ∷ xs) list =
-    omega (arith, sum_arrange F f e z rule xs (put rule x list), sum_put F f e rule x list, e x xs)
-
-pub length_arrange : (rule : Rule) (xs list : List Standing) → length (arrange rule xs list) ≡ length xs + length list
-length_arrange = sum_arrange length (λ _. 1) (λ _ _. omega arith) refl
 
 pub shares_arrange : (price : ℕ) (rule : Rule) (xs list : List Standing) →
     shares_at price (arrange rule xs list) ≡ shares_at price xs + shares_at price list
 shares_arrange price =
     sum_arrange (shares_at price) (λ o. cond (o.price == price) o.shares 0) (λ _ _. refl) refl
 
+pub shares_summed : (price : ℕ) (xs : List Standing) → sum_by (λ o. o.shares) (filter (λ o. o.price == price) xs) ≡ shares_at price xs
+shares_summed price [] = refl
+shares_summed price (x ∷ xs) = let e = shares_summed price xs in grind (arith, common_steps, nat_tests)
+
 pub tally_arrange : (n : ℕ) (rule : Rule) (xs list : List Standing) →
     tally n (arrange rule xs list) ≡ tally n xs + tally n list
 tally_arrange n = sum_arrange (tally n) (λ o. cond (o.number == n) 1 0) (λ _ _. refl) refl
-
-pub sound_put : (rule : Rule) (o : Standing) (xs : List Standing) → sound o ≡ true → AllSound xs → AllSound (put rule o xs)
-sound_put rule o [] s h = (s, tt)
-sound_put rule o (x ∷ xs) s h =
-    cond_both (rule.ahead o.price x.price) (o ∷ x ∷ xs) (x ∷ put rule o xs) AllSound
-    (λ _. (s, h)) (λ _. (h.0, sound_put rule o xs s h.1))
-
-pub sound_arrange : (rule : Rule) (xs list : List Standing) → all_sound xs ≡ true → AllSound list →
-    AllSound (arrange rule xs list)
-sound_arrange rule [] list s h = h
-sound_arrange rule (x ∷ xs) list s h =
-    let p = and_parts (sound x) (all_sound xs) s in
-    sound_arrange rule xs (put rule x list) p.1 (sound_put rule x list p.0 h)
 
 -- The front
 
@@ -297,66 +262,60 @@ module _ (rule : Rule) (os : List Standing) (i : ℕ) (l : i < length os) (d : D
       fewer_front (arranged rule os) (slice_index_or os i blank) k
       (omega (arith, tally_arrange (get_or os i blank).number rule os [], d (get_or os i blank).number)) front e
 
--- What a place says of the arranged list
+-- What the place of an order's number says of the arranged list
 
-absent_tally : (m : ℕ) (xs : List Standing) (n : ℕ) → ((k : ℕ) → k < n → (get_or xs k blank).number ≢ m) →
-    tally m (take n xs) ≡ 0
-absent_tally m xs zero h = refl
-absent_tally m [] (suc n) h = refl
-absent_tally m (x ∷ xs) (suc n) h =
-    let t = absent_tally m xs n (λ k l. h (suc k) (omega arith)) in
-    let d : nat_eq x.number m ≡ false = ne_eqb x.number m (h 0 (omega arith)) in
-    ap (λ b. cond {A = ℕ} b 1 0 + tally m (take n xs)) d ∙ omega arith
+abbrev pub numbered : ℕ → Standing → Bool
+numbered n o = o.number == n
 
-pub absent_arranged : (rule : Rule) (v : Arrivals) (n : ℕ) → Place n v None → find n (arranged rule (held v)) ≡ None
-absent_arranged rule v n p =
-    find_none n (arranged rule (held v))
-    (omega (arith, absent_tally n v.spots v.count p, tally_arrange n rule (held v) []))
+passed_by : (n : ℕ) (xs : List Standing) → length xs ≤ position_or_len (numbered n) xs → tally n xs ≡ 0
+passed_by n [] h = refl
+passed_by n (x ∷ xs) h = let t = passed_by n xs in grind (arith, nat_tests)
 
-pub fresh : (v : Arrivals) (n : ℕ) → (r : Option ℕ) → Place n v r → false ≡ is_some r → tally n (held v) ≡ 0
-fresh v n None p e = absent_tally n v.spots v.count p
-fresh v n (Some i) p e = absurd (both_ways true (sym e) refl)
+pub tally_absent : (n : ℕ) (xs : List Standing) → position (numbered n) xs ≡ None → tally n xs ≡ 0
+tally_absent n xs e = passed_by n xs (grind (arith, nat_tests))
 
-module _ (rule : Rule) (v : Arrivals) (good : Good v) where
-  pub find_place : (n i : ℕ) → Place n v (Some i) → find n (arranged rule (held v)) ≡ Some (slice_index_or v.spots i blank)
-  find_place n i p =
-      let e = read v i p.0 in
-      ap (λ m. find m (arranged rule (held v))) (sym (ap (λ o. o.number) e ∙ p.1)) ∙
-      find_at rule (held v) i (below v good i p.0) good.3 ∙
-      ap Some e
+pub absent_arranged : (rule : Rule) (os : List Standing) (n : ℕ) → position (numbered n) os ≡ None → find n (arranged rule os) ≡ None
+absent_arranged rule os n e =
+    find_none n (arranged rule os) (omega (arith, tally_absent n os e, tally_arrange n rule os []))
 
-  stands_place : (n : ℕ) (r : Option ℕ) → Place n v r → stands n (arranged rule (held v)) ≡ is_some r
-  stands_place n None p = ap is_some (absent_arranged rule v n p)
-  stands_place n (Some i) p = ap is_some (find_place n i p)
+match_some : (p : Option ℕ) (P : Option ℕ → Type 0) → (p ≡ None → P None) → ((i : ℕ) → p ≡ Some i → P (Some i)) → P p
+match_some None P f g = f refl
+match_some (Some i) P f g = g i refl
 
-  pub gone_place : Lawful rule → (n i : ℕ) → Place n v (Some i) →
-      arranged rule (held (closed_up v i)) ≡ without n (arranged rule (held v))
-  gone_place law n i p =
-      ap (arranged rule) (held_closed v good i p.0) ∙
-      without_at rule (held v) i (below v good i p.0) good.3 law ∙
-      ap (λ m. without m (arranged rule (held v))) (ap (λ o. o.number) (read v i p.0) ∙ p.1)
+module _ (rule : Rule) (os : List Standing) (d : Distinct os) (n : ℕ) where
+  pub find_place : (i : ℕ) → position (numbered n) os ≡ Some i → find n (arranged rule os) ≡ Some (slice_index_or os i blank)
+  find_place i e =
+      let p = position-Some (numbered n) os i blank e in
+      ap (λ m. find m (arranged rule os)) (sym (eqb-true (get_or os i blank).number n p.1)) ∙ find_at rule os i p.0 d
 
-  pub gone_front : Lawful rule → (i : ℕ) → Front rule v (Some i) → (k : ℕ) → k ≡ (get_or v.spots i blank).shares →
-      arranged rule (held (closed_up v i)) ≡ less (arranged rule (held v)) k
-  gone_front law i p k e =
-      ap (arranged rule) (held_closed v good i p.0) ∙
-      gone_at rule (held v) i (below v good i p.0) good.3 (p.1 ∙ sym (ap Some (read v i p.0))) law k
-      (e ∙ sym (ap (λ o. o.shares) (read v i p.0)))
+  pub stands_place : stands n (arranged rule os) ≡ is_some (position (numbered n) os)
+  stands_place =
+      match_some (position (numbered n) os) (λ r. stands n (arranged rule os) ≡ is_some r)
+      (λ e. ap is_some (absent_arranged rule os n e)) (λ i e. ap is_some (find_place i e))
 
-  pub less_front : (i : ℕ) → Front rule v (Some i) → (k : ℕ) → (k ≢ (get_or v.spots i blank).shares) →
-      arranged rule (held (less_at v i k)) ≡ less (arranged rule (held v)) k
-  less_front i p k d =
-      ap (arranged rule) (held_less v good i p.0 k) ∙
-      reduced_front rule (held v) i (below v good i p.0) good.3 (p.1 ∙ sym (ap Some (read v i p.0))) k
-      (λ e. d (e ∙ ap (λ o. o.shares) (read v i p.0)))
+  -- what `find` of the arrivals says is what the arranged list says
+  pub found_place : (r : Option Standing) →
+      MatchOption (position (numbered n) os) (r ≡ None) (λ i. r ≡ Some (slice_index_or os i blank)) →
+      r ≡ find n (arranged rule os)
+  found_place r =
+      match_some (position (numbered n) os)
+      (λ p. MatchOption p (r ≡ None) (λ i. r ≡ Some (slice_index_or os i blank)) → r ≡ find n (arranged rule os))
+      (λ e h. h ∙ sym (absent_arranged rule os n e)) (λ i e h. h ∙ sym (find_place i e))
 
-  -- whether an order can be added, from the two tests of it
-  pub fit_place : (o : Standing) (r : Option ℕ) → Place o.number v r → (is there : Bool) → is ≡ sound o → there ≡ is_some r →
-      (sound o && not (stands o.number (arranged rule (held v)))) ≡ (is && not there)
-  fit_place o r p is there e f = let s = stands_place o.number r p in cc
+  pub gone_place : Lawful rule → (i : ℕ) → position (numbered n) os ≡ Some i → arranged rule (remove os i) ≡ without n (arranged rule os)
+  gone_place law i e =
+      let p = position-Some (numbered n) os i blank e in
+      without_at rule os i p.0 d law ∙ ap (λ m. without m (arranged rule os)) (eqb-true (get_or os i blank).number n p.1)
+
+pub fresh : (os : List Standing) (n : ℕ) → is_some (position (numbered n) os) ≡ false → tally n os ≡ 0
+fresh os n =
+    match_some (position (numbered n) os) (λ r. is_some r ≡ false → tally n os ≡ 0) (λ e h. tally_absent n os e) (λ i e h. cc)
+
+-- whether an order can be added, from the two tests of it
+pub fit_place : (rule : Rule) (os : List Standing) → Distinct os → (o : Standing) (is there : Bool) → is ≡ sound o →
+    there ≡ is_some (position (numbered o.number) os) →
+    (sound o && not (stands o.number (arranged rule os))) ≡ (is && not there)
+fit_place rule os d o is there e f = let s = stands_place rule os d o.number in cc
 
 pub arranged_push : (rule : Rule) (os : List Standing) (o : Standing) → arranged rule (os ++ o ∷ []) ≡ put rule o (arranged rule os)
 arranged_push rule os o = arrange_append rule os (o ∷ []) []
-
-pub length_arranged : (rule : Rule) (os : List Standing) → length (arranged rule os) ≡ length os
-length_arranged rule os = omega (arith, length_arrange rule os [])
