@@ -3,7 +3,7 @@ use Rattle.std.proofs.Common.{◌≡◌, ℕ, ◌≤◌, Bool, true, false, not,
 use Rattle.std.proofs.lemmas.Bool.{and_from, le-leb}
 use Rattle.rules.specs.Refusals.{check}
 use Rattle.rules.specs.Sides.{Rule}
-use Rattle.rules.specs.declared.refusal.Refusal.TheVariants.{BadOrder, BookFull, BadTake}
+use Rattle.rules.specs.declared.refusal.Refusal.TheVariants.{BadOrder, BookFull, BadTake, NotStanding}
 use Rattle.books.specs.Lists.{unless, front_of, find, stands, sound, put, added, less, taken, without, removed, removed_found}
 use Rattle.books.specs.declared.standing.Standing.{Standing}
 
@@ -36,6 +36,9 @@ taken_fit (x ∷ xs) y n f a b =
     let t : (leb 1 n && leb n x.shares) ≡ true =
     and_from (leb 1 n) (leb n x.shares) (le-leb 1 n a) (le-leb n x.shares (omega arith)) in
     ap (λ c. unless (check c BadTake None) (x ∷ xs) record { answer = Ok tt; list = less (x ∷ xs) n }) t
+
+pub removed_none : (orders : List Standing) (n : ℕ) → find n orders ≡ None → removed n orders ≡ record { answer = Err NotStanding; list = orders }
+removed_none orders n f = ap (λ r. removed_found r n orders) f
 
 pub removed_is : (orders : List Standing) (y : Standing) (n : ℕ) → find n orders ≡ Some y →
     removed n orders ≡ record { answer = Ok y.shares; list = without n orders }

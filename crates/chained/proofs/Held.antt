@@ -1,15 +1,17 @@
 -- What a chained book keeps, call by call: well-formed chains, the count, and sound orders.
-use Rattle.std.proofs.Common.{◌≡◌, ℕ, ◌+◌, ◌-◌, ◌*◌, ◌^◌, ◌<◌, ◌≤◌, Bool, true, ◌&&◌, eqb, leb, ◌≢◌, List, [], ◌∷◌, map, length, Some, None, sym, refl, ap, ◌∙◌, subst, arith}
+use Rattle.std.proofs.Common.{◌≡◌, ℕ, ◌+◌, ◌-◌, ◌*◌, ◌^◌, ◌<◌, ◌≤◌, Bool, true, cond, ◌&&◌, ⊎_elim, eqb, leb, ◌≢◌, List, [], ◌∷◌, map, length, Some, None, sym, refl, ap, ◌∙◌, subst, arith}
 use Rattle.std.proofs.lemmas.List.{length-set}
-use Rattle.std.proofs.lemmas.Bool.{cond_both, and_parts, and_from, leb-true}
+use Rattle.std.proofs.lemmas.Bool.{cond_both, cond-true, cond-false, cases_eq, eq-eqb, ne_eqb, and_parts, and_from, leb-true}
 use Rattle.rules.specs.Prices.{most_shares}
 use Rattle.rules.specs.Sides.{Rule}
 use Rattle.rules.specs.declared.side.Side.{Ghosts}
 use Rattle.books.specs.Lists.{most_places, find, front_of, put, without, reduced, shares_at, sound}
+use Rattle.books.proofs.Keeping.{sound_reduced}
 use Rattle.books.specs.declared.standing.Standing.{Standing}
 use Rattle.chained.specs.Links.{times, first, stop}
 use Rattle.chained.specs.Laws.{Held, length_orders}
-use Rattle.chained.specs.Records.{most_records, at, next_of, free_of, order_of, line, idle, orders_in, room_in, Apart, Whole, Cleared, all_sound, linked, unlinked, with_order}
+use Rattle.books.specs.Arranging.{all_sound}
+use Rattle.chained.specs.Records.{most_records, next_of, free_of, order_of, line, idle, orders_in, room_in, Apart, Whole, Cleared, linked, unlinked, with_order}
 use Rattle.chained.specs.declared.chained.Chained.{Chained}
 use Rattle.chained.specs.declared.record.Record.{Record}
 use Rattle.chained.proofs.Chain.{Chain, cut_out, frame, never_zero, times_here}
@@ -17,7 +19,6 @@ use Rattle.chained.proofs.Columns.{at_same, at_other, keeps}
 use Rattle.chained.proofs.Meant.{map_same, find_some, find_none, all_put, all_without}
 use Rattle.chained.proofs.Moves.{line_chain, idle_chain, line_is, idle_is, once, length_linked, length_unlinked}
 use Rattle.chained.proofs.Formed.{formed, line_cleared, formed_cleared, link_here, link_before, formed_linked, count_linked, orders_linked, unlink_here, unlink_before, formed_unlinked, count_unlinked, orders_cut, orders_unlinked}
-use Rattle.chained.proofs.Outcomes.{reduced_sound}
 use Rattle.chained.proofs.Steps.{from, along_starts, along_below, from_here, from_zero}
 
 -- the shares at a price fit: at most 4,096 orders with at most 10,000,000 each
@@ -64,6 +65,10 @@ module _ (rs : List Record) (apart : Apart rs) (whole : Whole rs) where
 
 -- Adding
 
+-- what is meant by a search for the place of an order
+abbrev pub by_price : Rule → Standing → Standing → Bool
+by_price rule o other = rule.ahead o.price other.price
+
 abbrev pub ahead : Rule → Standing → List Record → ℕ → Bool
 ahead rule o rs j = rule.ahead o.price (order_of rs j).price
 
@@ -102,6 +107,10 @@ module _ (rule : Rule) (o : Standing) (rs : List Record) (count : ℕ) (h : Held
       subst (λ zs. Added rule o rs zs count') (sym (is ∙ ap (λ b. linked rs b (free_of rs 0) o) at_stop)) done
 
 -- Removing
+
+-- what is meant by a search for a number
+abbrev pub by_number : ℕ → Standing → Bool
+by_number number o = eqb o.number number
 
 abbrev pub numbered : ℕ → List Record → ℕ → Bool
 numbered number rs j = eqb (order_of rs j).number number
@@ -209,7 +218,7 @@ module _ (rs : List Record) (count : ℕ) (h : Held count rs) (some : next_of rs
   -- n shares fewer
   pub taken_part : (o : Standing) (n : ℕ) (rs' : List Record) (here count' : ℕ) → o ≡ order_of rs (next_of rs 0) → n ≤ o.shares → n ≢ o.shares → here ≡ next_of rs 0 → rs' ≡ with_order rs here (reduced (order_of rs here) n) → count' ≡ count → Removed (reduced o n ∷ behind rs) rs rs' count'
   taken_part o n rs' here count' front enough ne e is same =
-      put_front (reduced o n) rs' here count' (reduced_sound o n (ap sound front ∙ sound_parts.0) enough ne) e
+      put_front (reduced o n) rs' here count' (sound_reduced o n (omega (arith, enough, ne)) (ap sound front ∙ sound_parts.0)) e
       (is ∙ ap (λ x. with_order rs here (reduced x n)) (ap (order_of rs) e ∙ sym front)) same
 
 -- Finding by number
@@ -222,9 +231,17 @@ module _ (rs : List Record) (apart : Apart rs) (whole : Whole rs) (number here :
   found_none z =
       sym (find_none number (order_of rs) (line rs) (never_zero (next_of rs) (next_of rs 0) (line rs) (line_chain rs whole)) (sym is ∙ z))
 
-  pub found_some : here ≢ 0 → (r : Record) → r ≡ at rs here → Some r.order ≡ find number (orders_in rs)
-  found_some some r e =
-      ap (λ v. Some v.order) (e ∙ ap (at rs) is) ∙ sym (find_some number (order_of rs) (line rs) (omega (arith, some)))
+  pub found_some : here ≢ 0 → Some (order_of rs here) ≡ find number (orders_in rs)
+  found_some some =
+      ap (λ k. Some (order_of rs k)) is ∙ sym (find_some number (order_of rs) (line rs) (omega (arith, some)))
+
+  -- the order found, from where the walk stopped
+  pub found_is : cond (eqb here 0) None (Some (order_of rs here)) ≡ find number (orders_in rs)
+  found_is =
+      ⊎_elim
+      (λ (z : here ≡ 0). cond-true (eqb here 0) None (Some (order_of rs here)) (eq-eqb here 0 z) ∙ found_none z)
+      (λ (some : here ≢ 0). cond-false (eqb here 0) None (Some (order_of rs here)) (ne_eqb here 0 some) ∙ found_some some)
+      (cases_eq here 0)
 
 -- what the ghost fields of a book say together
 pub held : {X : Type 0} {d : Ghosts X} (b : Chained X d) → Held b.chains.count b.chains.records.now

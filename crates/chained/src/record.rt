@@ -13,11 +13,7 @@ pub struct Record {
 
 impl Record {
     pub const BLANK: Record = Record {
-        order: Standing {
-            number: 0,
-            price: 0,
-            shares: 0,
-        },
+        order: Standing::BLANK,
         next: 0,
         free: 0,
     };

@@ -2,11 +2,10 @@ use Rattle.std.proofs.Common.{rules, ◌≡◌, Err, Some, None, sym, refl, ap, 
 use Rattle.std.proofs.lemmas.List.Quantifiers.{position-Some}
 use Rattle.rules.specs.declared.refusal.Refusal.TheVariants.{NotStanding}
 use Rattle.books.specs.Arranging.{arranged}
-use Rattle.books.specs.Lists.{removed_found}
 use Rattle.books.specs.Packing.{blank}
 use Rattle.books.proofs.Arranged.{find_place, absent_arranged, gone_place, numbered}
 use Rattle.books.proofs.Keeping.{kept_removed, Good}
-use Rattle.books.proofs.Outcomes.{removed_is}
+use Rattle.books.proofs.Outcomes.{removed_none, removed_is}
 use Rattle.books.proofs.packed.PackedBook.remove.Goals as goal
 
 pub returns-in_err-index : goal.returns-in_err-index
@@ -15,8 +14,7 @@ returns-in_err-index g c =
     let n = c.args.number in
     let none : position (numbered n) os ≡ None = search rules in
     let said : c.from_residual.result ≡ Err NotStanding = search rules in
-    let e =
-    ap (λ f. removed_found f n (arranged g.S.Side.rule os)) (absent_arranged g.S.Side.rule os n none) in
+    let e = removed_none (arranged g.S.Side.rule os) n (absent_arranged g.S.Side.rule os n none) in
     record { answer = said ∙ sym (ap (λ r. r.answer) e); list = sym (ap (λ r. r.list) e); places = refl {a = 32} }
 
 pub invariant_of-self : goal.invariant_of-self

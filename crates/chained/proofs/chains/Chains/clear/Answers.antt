@@ -1,18 +1,21 @@
-use Rattle.std.proofs.Common.{length, refl, ap}
-use Rattle.chained.proofs.Columns.{cleared_none, cleared_some}
+use Rattle.std.proofs.Common.{◌≡◌, ◌+◌, cond, ltb, length, arith, ap, sym, refl, ◌∙◌}
+use Rattle.std.proofs.lemmas.Bool.{lt-ltb, le-ltb}
+use Rattle.chained.proofs.Columns.{cleared_more, all_cleared}
 use Rattle.chained.proofs.chains.Chains.clear.Goals as goal
-use Rattle.chained.proofs.chains.Chains.clear.Goals.{then-end-gt0, else-end-gt0}
+use Rattle.chained.proofs.chains.Chains.clear.Goals.{then-after-end, else-after-end}
 
-pub returns : goal.returns
-returns c =
-    record {
-      records = elim c.if-end-gt0.branch [
-        | then-end-gt0 w ↦
-            cleared_some c.loop-k.self.records.now c.if-end-gt0.self.records.now (length c.args.self.now.records.now) c.loop-k.k
-            c.loop-k.invariant.0 c.loop-k-test.false c.loop-k.invariant.1 w.if-end-gt0.true (ap (λ s. s.records.now) w.self-is)
-        | else-end-gt0 w ↦
-            cleared_none c.loop-k.self.records.now c.if-end-gt0.self.records.now (length c.args.self.now.records.now) c.loop-k.k
-            c.loop-k.invariant.0 c.loop-k-test.false c.loop-k.invariant.1 w.if-end-gt0.false (ap (λ s. s.records.now) w.self-is)
-      ];
-      count = refl;
-    }
+pub loop-k-preserved : goal.loop-k-preserved
+loop-k-preserved c =
+    let n = length c.args.self.now.records.now in
+    let k = c.loop-k.k in
+    let free : c.if-after-end.record ≡ cond (ltb (k + 1) n) (k + 1) 0 =
+    elim c.if-after-end.branch [
+      | then-after-end w ↦ w.record-is ∙ ap (λ b. cond b (k + 1) 0) (sym (lt-ltb (k + 1) n w.if-after-end.true))
+      | else-after-end w ↦ w.record-is ∙ ap (λ b. cond b (k + 1) 0) (sym (le-ltb (k + 1) n w.if-after-end.false))
+    ] in
+    cleared_more n c.loop-k.record-items k _ (omega arith) refl free c.loop-k.invariant
+
+pub returns-clause-records : goal.returns-clause-records
+returns-clause-records c =
+    all_cleared (length c.args.self.now.records.now) c.loop-k.record-items c.loop-k.k c.loop-k.auto.record-items
+    c.loop-k-test.false c.loop-k.invariant

@@ -1,8 +1,8 @@
-use Rattle.std.proofs.Common.{◌≡◌, ◌<◌, ◌≤◌, true, false, length, is_some, sym, refl, ap, ◌∙◌, arith}
+use Rattle.std.proofs.Common.{rules, ◌≡◌, ◌<◌, ◌≤◌, true, false, length, is_some, sym, refl, ap, ◌∙◌, arith}
 use Rattle.std.proofs.lemmas.Bool.{ltb-true, ltb-false}
 use Rattle.books.specs.Lists.{sound, find}
 use Rattle.chained.specs.Records.{orders_in, room_in}
-use Rattle.chained.proofs.Held.{held, add_before, add_here, add_count, added_held}
+use Rattle.chained.proofs.Held.{held, by_price, add_before, add_here, add_count, added_held}
 use Rattle.chained.proofs.Outcomes.{add_passes, add_full}
 use Rattle.chained.proofs.chained.calls.ChainedBook.add.Goals as goal
 
@@ -25,7 +25,7 @@ link-requires g c =
     ltb-true (length (orders_in rs)) (room_in rs) (sym c.if-not-has_space.ensures) in
     let before = add_before g.S.Side.rule c.args.order rs b.chains.count (held b) space in
     record {
-      before_in_bounds = omega (arith, c.seek-spot.ensures.before, before);
+      before_in_bounds = omega (arith, before, c.seek-spot.ensures.before (by_price g.S.Side.rule c.args.order) (λ o r p. search rules));
       records_in_bounds = add_here g.S.Side.rule c.args.order rs b.chains.count (held b) space;
       count_lt_most_places = add_count g.S.Side.rule c.args.order rs b.chains.count (held b) space;
     }
@@ -39,7 +39,8 @@ invariant_of-self g c =
     ltb-true (length (orders_in rs)) (room_in rs) (sym c.if-not-has_space.ensures) in
     let k =
     (added_held g.S.Side.rule c.args.order rs b.chains.count (held b) space
-    c.link.new.self.records.now c.seek-spot.result.before c.link.new.self.count good c.seek-spot.ensures.before
+    c.link.new.self.records.now c.seek-spot.result.before c.link.new.self.count good
+    (c.seek-spot.ensures.before (by_price g.S.Side.rule c.args.order) (λ o r p. search rules))
     c.link.ensures.records c.link.ensures.count).held in
     record { few = k.0; counted = k.1.0; apart = k.1.1.0; whole = k.1.1.1.0; sound = k.1.1.1.1.0 }
 
@@ -53,7 +54,8 @@ returns g c =
     let space : length (orders_in rs) < room_in rs =
     ltb-true (length (orders_in rs)) (room_in rs) (sym c.if-not-has_space.ensures) in
     let done = added_held g.S.Side.rule c.args.order rs b.chains.count (held b) space
-    c.link.new.self.records.now c.seek-spot.result.before c.link.new.self.count good c.seek-spot.ensures.before
+    c.link.new.self.records.now c.seek-spot.result.before c.link.new.self.count good
+    (c.seek-spot.ensures.before (by_price g.S.Side.rule c.args.order) (λ o r p. search rules))
     c.link.ensures.records c.link.ensures.count in
     let out = add_passes g.S.Side.rule (room_in rs) (orders_in rs) c.args.order good new space in
     record { answer = sym (ap (λ o. o.answer) out); list = done.list ∙ sym (ap (λ o. o.list) out); places = done.room }

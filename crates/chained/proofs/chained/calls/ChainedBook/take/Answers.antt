@@ -1,4 +1,4 @@
-use Rattle.std.proofs.Common.{◌≡◌, ◌<◌, ◌∷◌, length, sym, ap, ◌∙◌, arith}
+use Rattle.std.proofs.Common.{rules, ◌≡◌, ◌<◌, ◌∷◌, length, sym, ap, ◌∙◌, arith}
 use Rattle.chained.specs.Records.{next_of, order_of, orders_in}
 use Rattle.chained.proofs.Held.{held, behind, front_known, front_below, orders_front, take_count, taken_whole, taken_part}
 use Rattle.chained.proofs.Outcomes.{take_all, take_part}
@@ -8,7 +8,7 @@ pub unlink-requires : goal.unlink-requires
 unlink-requires g c =
     let b = c.args.self.now in
     let rs = b.chains.records.now in
-    let known = front_known rs b.apart b.whole c.in-Some.order c.in-Some.ensures in
+    let known = front_known rs b.apart b.whole c.in_ok-order.order (search rules) in
     let below : next_of rs 0 < length rs = front_below rs b.apart b.whole known.0 in
     record {
       before_in_bounds = omega (arith, below);
@@ -20,7 +20,7 @@ pub invariant_of-self : goal.invariant_of-self
 invariant_of-self g c =
     let b = c.args.self.now in
     let rs = b.chains.records.now in
-    let known = front_known rs b.apart b.whole c.in-Some.order c.in-Some.ensures in
+    let known = front_known rs b.apart b.whole c.in_ok-order.order (search rules) in
     let k =
     (taken_whole rs b.chains.count (held b) known.0 c.unlink.new.self.records.now c.first-here.result c.unlink.new.self.count
     c.first-here.ensures c.unlink.ensures.records c.unlink.ensures.count).held in
@@ -30,7 +30,7 @@ pub returns-then-shares-order-2 : goal.returns-then-shares-order-2
 returns-then-shares-order-2 g c =
     let b = c.args.self.now in
     let rs = b.chains.records.now in
-    let known = front_known rs b.apart b.whole c.in-Some.order c.in-Some.ensures in
+    let known = front_known rs b.apart b.whole c.in_ok-order.order (search rules) in
     let done = taken_whole rs b.chains.count (held b) known.0 c.unlink.new.self.records.now c.first-here.result c.unlink.new.self.count
     c.first-here.ensures c.unlink.ensures.records c.unlink.ensures.count in
     let out = take_all (orders_in rs) (order_of rs (next_of rs 0)) (behind rs) c.args.shares (orders_front rs b.chains.count (held b) known.0)
@@ -41,9 +41,9 @@ pub reduce-requires : goal.reduce-requires
 reduce-requires g c =
     let b = c.args.self.now in
     let rs = b.chains.records.now in
-    let known = front_known rs b.apart b.whole c.in-Some.order c.in-Some.ensures in
+    let known = front_known rs b.apart b.whole c.in_ok-order.order (search rules) in
     let below : next_of rs 0 < length rs = front_below rs b.apart b.whole known.0 in
-    let same : c.in-Some.order ≡ order_of rs c.first-here.result = known.1 ∙ ap (order_of rs) (sym c.first-here.ensures) in
+    let same : c.in_ok-order.order ≡ order_of rs c.first-here.result = known.1 ∙ ap (order_of rs) (sym c.first-here.ensures) in
     record {
       here_in_bounds = omega (arith, below, c.first-here.ensures);
       shares_bound = omega (arith, ap (λ o. o.shares) same, c.if-shares-order.false);
@@ -52,9 +52,9 @@ reduce-requires g c =
 pub invariant_of-self-else-shares-order-2 : goal.invariant_of-self-else-shares-order-2
 invariant_of-self-else-shares-order-2 g c =
     let b = c.args.self.now in
-    let known = front_known b.chains.records.now b.apart b.whole c.in-Some.order c.in-Some.ensures in
+    let known = front_known b.chains.records.now b.apart b.whole c.in_ok-order.order (search rules) in
     let k =
-    (taken_part b.chains.records.now b.chains.count (held b) known.0 c.in-Some.order c.args.shares c.reduce.new.self.records.now
+    (taken_part b.chains.records.now b.chains.count (held b) known.0 c.in_ok-order.order c.args.shares c.reduce.new.self.records.now
     c.first-here.result c.reduce.new.self.count known.1 c.if-shares-order.false c.if-shares-order-2.false
     c.first-here.ensures c.reduce.ensures.records c.reduce.ensures.count).held in
     record { few = k.0; counted = k.1.0; apart = k.1.1.0; whole = k.1.1.1.0; sound = k.1.1.1.1.0 }
@@ -63,11 +63,11 @@ pub returns-else-shares-order-2 : goal.returns-else-shares-order-2
 returns-else-shares-order-2 g c =
     let b = c.args.self.now in
     let rs = b.chains.records.now in
-    let known = front_known rs b.apart b.whole c.in-Some.order c.in-Some.ensures in
-    let done = taken_part rs b.chains.count (held b) known.0 c.in-Some.order c.args.shares c.reduce.new.self.records.now
+    let known = front_known rs b.apart b.whole c.in_ok-order.order (search rules) in
+    let done = taken_part rs b.chains.count (held b) known.0 c.in_ok-order.order c.args.shares c.reduce.new.self.records.now
     c.first-here.result c.reduce.new.self.count known.1 c.if-shares-order.false c.if-shares-order-2.false
     c.first-here.ensures c.reduce.ensures.records c.reduce.ensures.count in
-    let out = take_part (orders_in rs) c.in-Some.order (behind rs) c.args.shares
+    let out = take_part (orders_in rs) c.in_ok-order.order (behind rs) c.args.shares
     (orders_front rs b.chains.count (held b) known.0 ∙ ap (λ o. o ∷ behind rs) (sym known.1))
     c.if-shares-eq0.false c.if-shares-order.false c.if-shares-order-2.false in
     record { answer = sym (ap (λ o. o.answer) out); list = done.list ∙ sym (ap (λ o. o.list) out); places = done.room }
