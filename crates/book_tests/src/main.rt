@@ -10,7 +10,7 @@ mod title;
 mod trial;
 
 use books::packed::Packed;
-use chained::chained::{Task, lend};
+use chained::chained::lend;
 use chained::record::Record;
 use rules::side::{Asks, Bids, Side};
 use rules::terms::SideName;
@@ -51,10 +51,7 @@ fn try_chained<S: Side>(
     side: SideName,
     records: usize,
     places: usize,
-) -> io::Result<()>
-where
-    Trial: Task<S, Answer = Outcome>,
-{
+) -> io::Result<()> {
     let mut lent = vec![in rt.alloc(); Record::BLANK; records]?;
     for seed in 1..3 {
         let trial = Trial::new(rt.alloc(), side, places, seed);
@@ -69,10 +66,7 @@ where
     Ok(())
 }
 
-fn try_side<S: Side>(rt: &HostRuntime, side: SideName) -> io::Result<()>
-where
-    Trial: Task<S, Answer = Outcome>,
-{
+fn try_side<S: Side>(rt: &HostRuntime, side: SideName) -> io::Result<()> {
     try_packed::<S>(rt, side)?;
     try_chained::<S>(rt, side, 33, 32)?;
     try_chained::<S>(rt, side, 2, 1)?;

@@ -24,12 +24,12 @@ impl Operation {
 
     pub fn apply<B: Book>(self, book: &mut B) -> Answer {
         match self {
-            Operation::Add(order) => Answer::of_done(book.add(order)),
-            Operation::Take(shares) => Answer::of_done(book.take(shares)),
-            Operation::Remove(number) => Answer::of_gone(book.remove(number)),
+            Operation::Add(order) => book.add(order).map(|_| None),
+            Operation::Take(shares) => book.take(shares).map(|_| None),
+            Operation::Remove(number) => book.remove(number).map(Some),
             Operation::Empty => {
                 book.empty();
-                Answer::Done
+                Ok(None)
             }
         }
     }
