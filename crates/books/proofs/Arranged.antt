@@ -1,5 +1,5 @@
 -- Orders by arrival, arranged by priority: what each question and change makes of them.
-use Rattle.std.specs.Prelude.{◌≡◌, ℕ, suc, ◌+◌, ◌<◌, ◌≤◌, Bool, true, false, cond, not, ◌&&◌, List, [], ◌∷◌, ◌++◌, map, length, get_or, take, drop, is_some, Some, None, Option, MatchOption, position, ◌==◌, ◌≢◌, nat_eq, slice_index_or, slice_set, refl}
+use Rattle.std.specs.Prelude.{◌≡◌, ℕ, suc, ◌+◌, ◌<◌, ◌≤◌, Bool, true, false, cond, List, [], ◌∷◌, ◌++◌, map, length, get_or, take, drop, is_some, Some, None, Option, MatchOption, position, ◌==◌, ◌≢◌, nat_eq, slice_index_or, slice_set, refl}
 use Rattle.std.proofs.Common.{sym, ap, ◌∙◌, ⊎_elim, arith}
 use Rattle.std.proofs.lemmas.List.{take_more, set_split}
 use Rattle.std.proofs.lemmas.List.Quantifiers.{position-Some}
@@ -8,7 +8,7 @@ use Rattle.std.proofs.lemmas.Grind.{common_steps}
 use Rattle.std.proofs.lemmas.Bool.{cases_Bool, cond_both, ne_eqb, eq-eqb, eqb-true}
 use Rattle.std.proofs.lemmas.Bool.Decides.{nat_tests}
 use Rattle.rules.specs.Sides.{Rule, Lawful}
-use Rattle.books.specs.Lists.{front_of, find, stands, shares_at, sound, put, without, less, reduced}
+use Rattle.books.specs.Lists.{front_of, find, stands, shares_at, put, without, less, reduced}
 use Rattle.books.specs.Packing.{blank}
 use Rattle.books.specs.Arranging.{tally, Distinct, arrange, arranged}
 use Rattle.books.specs.declared.standing.Standing.{Standing}
@@ -310,12 +310,6 @@ module _ (rule : Rule) (os : List Standing) (d : Distinct os) (n : ℕ) where
 pub fresh : (os : List Standing) (n : ℕ) → is_some (position (numbered n) os) ≡ false → tally n os ≡ 0
 fresh os n =
     match_some (position (numbered n) os) (λ r. is_some r ≡ false → tally n os ≡ 0) (λ e h. tally_absent n os e) (λ i e h. cc)
-
--- whether an order can be added, from the two tests of it
-pub fit_place : (rule : Rule) (os : List Standing) → Distinct os → (o : Standing) (is there : Bool) → is ≡ sound o →
-    there ≡ is_some (position (numbered o.number) os) →
-    (sound o && not (stands o.number (arranged rule os))) ≡ (is && not there)
-fit_place rule os d o is there e f = let s = stands_place rule os d o.number in cc
 
 pub arranged_push : (rule : Rule) (os : List Standing) (o : Standing) → arranged rule (os ++ o ∷ []) ≡ put rule o (arranged rule os)
 arranged_push rule os o = arrange_append rule os (o ∷ []) []

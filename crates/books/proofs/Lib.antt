@@ -5,3 +5,4 @@ pub mod Keeping
 pub mod Arranged
 pub mod Spots
 pub mod Front
+pub mod Calls

@@ -87,10 +87,6 @@ all_without number (x ∷ xs) all =
 
 -- An option made by a test
 
-pub if_some_map : {X : Type 0} (o : Option X) (P Q : X → Type 0) → ((x : X) → P x → Q x) → IfSome o P → IfSome o Q
-if_some_map None P Q f h = h
-if_some_map (Some x) P Q f h = f x h
-
 pub some_unless : (r : Option Standing) (none : Bool) (o : Standing) → is_some r ≡ not none → IfSome r (λ x. x ≡ o) → r ≡ cond none None (Some o)
 some_unless None true o e h = refl
 some_unless None false o e h = cc

@@ -1,9 +1,7 @@
-use Rattle.std.proofs.Common.{rules, ◌≡◌, Some, get_or, sym, refl, ap, ◌∙◌, subst, arith}
-use Rattle.books.specs.Arranging.{arranged}
+use Rattle.std.proofs.Common.{rules, ◌≡◌, Some, get_or, sym, ap, subst, arith}
 use Rattle.books.specs.Packing.{blank, Front}
-use Rattle.books.proofs.Arranged.{gone_at, reduced_front}
+use Rattle.books.proofs.Calls.{take_whole, take_part}
 use Rattle.books.proofs.Keeping.{Good, kept_removed, kept_reduced}
-use Rattle.books.proofs.Outcomes.{taken_fit}
 use Rattle.books.proofs.packed.PackedBook.take.Goals as goal
 
 pub invariant_of-self : goal.invariant_of-self
@@ -27,35 +25,18 @@ invariant_of-self-else-shares-left-2 g c =
 pub returns-then-shares-left-2 : goal.returns-then-shares-left-2
 returns-then-shares-left-2 g c =
     let b = c.args.self.now in
-    let rule = g.S.Side.rule in
     let i = c.in_ok-index.index in
-    let front : Front rule b.arrivals (Some i) = search rules in
-    let o = get_or b.arrivals i blank in
-    let s : c.at-left.result.shares ≡ o.shares = ap (λ o. o.shares) c.at-left.ensures in
-    let e = taken_fit (arranged rule b.arrivals) o c.args.shares front.1 (omega arith) (omega arith) in
-    record {
-      answer = sym (ap (λ r. r.answer) e);
-      list =
-          ap (arranged rule) c.close_up.ensures.left ∙
-          gone_at rule b.arrivals i front.0 b.distinct front.1 g.met.S.Side.lawful c.args.shares (omega arith) ∙
-          sym (ap (λ r. r.list) e);
-      places = refl {a = 32};
-    }
+    let front : Front g.S.Side.rule b.arrivals (Some i) = search rules in
+    let s : c.at-left.result.shares ≡ (get_or b.arrivals i blank).shares = ap (λ o. o.shares) c.at-left.ensures in
+    let e =
+    take_whole g.S.Side.rule b.arrivals b.distinct i c.args.shares front (omega arith) g.met.S.Side.lawful (omega arith) in
+    search rules
 
 pub returns-else-shares-left-2 : goal.returns-else-shares-left-2
 returns-else-shares-left-2 g c =
     let b = c.args.self.now in
-    let rule = g.S.Side.rule in
     let i = c.in_ok-index.index in
-    let front : Front rule b.arrivals (Some i) = search rules in
-    let o = get_or b.arrivals i blank in
-    let s : c.at-left.result.shares ≡ o.shares = ap (λ o. o.shares) c.at-left.ensures in
-    let e = taken_fit (arranged rule b.arrivals) o c.args.shares front.1 (omega arith) (omega arith) in
-    record {
-      answer = sym (ap (λ r. r.answer) e);
-      list =
-          ap (arranged rule) c.reduce.ensures ∙
-          reduced_front rule b.arrivals i front.0 b.distinct front.1 c.args.shares (omega arith) ∙
-          sym (ap (λ r. r.list) e);
-      places = refl {a = 32};
-    }
+    let front : Front g.S.Side.rule b.arrivals (Some i) = search rules in
+    let s : c.at-left.result.shares ≡ (get_or b.arrivals i blank).shares = ap (λ o. o.shares) c.at-left.ensures in
+    let e = take_part g.S.Side.rule b.arrivals b.distinct i c.args.shares front (omega arith) (omega arith) in
+    search rules

@@ -1,4 +1,4 @@
-use Rattle.std.proofs.Common.{rules, ◌≡◌, ◌<◌, ◌≤◌, true, false, length, is_some, sym, refl, ap, ◌∙◌, arith}
+use Rattle.std.proofs.Common.{rules, ◌≡◌, ◌<◌, ◌≤◌, true, false, length, is_some, sym, ap, ◌∙◌, arith}
 use Rattle.std.proofs.lemmas.Bool.{ltb-true, ltb-false}
 use Rattle.books.specs.Lists.{sound, find}
 use Rattle.chained.specs.Records.{orders_in, room_in}
@@ -15,7 +15,7 @@ returns-then-not-has_space g c =
     let full : room_in rs ≤ length (orders_in rs) =
     ltb-false (length (orders_in rs)) (room_in rs) (sym c.if-not-has_space.ensures) in
     let out = add_full g.S.Side.rule (room_in rs) (orders_in rs) c.args.order good new full in
-    record { answer = sym (ap (λ o. o.answer) out); list = sym (ap (λ o. o.list) out); places = refl }
+    search rules
 
 pub link-requires : goal.link-requires
 link-requires g c =
@@ -42,7 +42,7 @@ invariant_of-self g c =
     c.link.new.self.records.now c.seek-spot.result.before c.link.new.self.count good
     (c.seek-spot.ensures.before (by_price g.S.Side.rule c.args.order) (λ o r p. search rules))
     c.link.ensures.records c.link.ensures.count).held in
-    record { few = k.0; counted = k.1.0; apart = k.1.1.0; whole = k.1.1.1.0; sound = k.1.1.1.1.0 }
+    search rules
 
 pub returns : goal.returns
 returns g c =
@@ -58,4 +58,4 @@ returns g c =
     (c.seek-spot.ensures.before (by_price g.S.Side.rule c.args.order) (λ o r p. search rules))
     c.link.ensures.records c.link.ensures.count in
     let out = add_passes g.S.Side.rule (room_in rs) (orders_in rs) c.args.order good new space in
-    record { answer = sym (ap (λ o. o.answer) out); list = done.list ∙ sym (ap (λ o. o.list) out); places = done.room }
+    search rules

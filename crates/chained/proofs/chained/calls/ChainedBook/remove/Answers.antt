@@ -1,4 +1,4 @@
-use Rattle.std.proofs.Common.{◌<◌, ◌≢◌, length, Some, sym, refl, ap, ◌∙◌, arith}
+use Rattle.std.proofs.Common.{rules, ◌<◌, ◌≢◌, length, Some, sym, ap, ◌∙◌, arith}
 use Rattle.chained.specs.Links.{first, stop}
 use Rattle.chained.specs.Records.{line, orders_in}
 use Rattle.chained.proofs.Held.{held, found_below, found_none, found_some, cut_before, cut_count, removed_held, numbered}
@@ -11,7 +11,7 @@ returns-then-spot-eq0 g c =
     let none = found_none b.chains.records.now b.apart b.whole c.args.number c.spot_of-spot.result.here
     c.spot_of-spot.ensures.here c.if-spot-eq0.true in
     let out = removed_none (orders_in b.chains.records.now) c.args.number (sym none) in
-    record { answer = sym (ap (λ o. o.answer) out); list = sym (ap (λ o. o.list) out); places = refl }
+    search rules
 
 pub unlink-requires : goal.unlink-requires
 unlink-requires g c =
@@ -35,7 +35,7 @@ invariant_of-self g c =
     (λ z. c.if-spot-eq0.false (c.spot_of-spot.ensures.here ∙ z)) c.unlink.new.self.records.now c.spot_of-spot.result.before
     c.spot_of-spot.result.here c.unlink.new.self.count c.spot_of-spot.ensures.before c.spot_of-spot.ensures.here
     c.unlink.ensures.records c.unlink.ensures.count).held in
-    record { few = k.0; counted = k.1.0; apart = k.1.1.0; whole = k.1.1.1.0; sound = k.1.1.1.1.0 }
+    search rules
 
 pub returns : goal.returns
 returns g c =
@@ -48,4 +48,4 @@ returns g c =
     c.spot_of-spot.ensures.here c.if-spot-eq0.false in
     let out = removed_is (orders_in b.chains.records.now) c.unlink.result c.args.number
     (sym some ∙ ap Some (sym c.unlink.ensures.order)) in
-    record { answer = sym (ap (λ o. o.answer) out); list = done.list ∙ sym (ap (λ o. o.list) out); places = done.room }
+    search rules

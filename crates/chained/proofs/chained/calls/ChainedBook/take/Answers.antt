@@ -1,20 +1,8 @@
-use Rattle.std.proofs.Common.{rules, ◌≡◌, ◌<◌, ◌∷◌, length, sym, ap, ◌∙◌, arith}
+use Rattle.std.proofs.Common.{rules, ◌∷◌, sym, ap, ◌∙◌}
 use Rattle.chained.specs.Records.{next_of, order_of, orders_in}
-use Rattle.chained.proofs.Held.{held, behind, front_known, front_below, orders_front, take_count, taken_whole, taken_part}
+use Rattle.chained.proofs.Held.{held, behind, front_known, orders_front, taken_whole, taken_part}
 use Rattle.chained.proofs.Outcomes.{take_all, take_part}
 use Rattle.chained.proofs.chained.calls.ChainedBook.take.Goals as goal
-
-pub unlink-requires : goal.unlink-requires
-unlink-requires g c =
-    let b = c.args.self.now in
-    let rs = b.chains.records.now in
-    let known = front_known rs b.apart b.whole c.in_ok-order.order (search rules) in
-    let below : next_of rs 0 < length rs = front_below rs b.apart b.whole known.0 in
-    record {
-      before_in_bounds = omega (arith, below);
-      here_in_bounds = omega (arith, below, c.first-here.ensures);
-      count_nonzero = take_count rs b.chains.count (held b) known.0;
-    }
 
 pub invariant_of-self : goal.invariant_of-self
 invariant_of-self g c =
@@ -24,7 +12,7 @@ invariant_of-self g c =
     let k =
     (taken_whole rs b.chains.count (held b) known.0 c.unlink.new.self.records.now c.first-here.result c.unlink.new.self.count
     c.first-here.ensures c.unlink.ensures.records c.unlink.ensures.count).held in
-    record { few = k.0; counted = k.1.0; apart = k.1.1.0; whole = k.1.1.1.0; sound = k.1.1.1.1.0 }
+    search rules
 
 pub returns-then-shares-order-2 : goal.returns-then-shares-order-2
 returns-then-shares-order-2 g c =
@@ -35,19 +23,7 @@ returns-then-shares-order-2 g c =
     c.first-here.ensures c.unlink.ensures.records c.unlink.ensures.count in
     let out = take_all (orders_in rs) (order_of rs (next_of rs 0)) (behind rs) c.args.shares (orders_front rs b.chains.count (held b) known.0)
     c.if-shares-eq0.false (c.if-shares-order-2.true ∙ ap (λ o. o.shares) known.1) in
-    record { answer = sym (ap (λ o. o.answer) out); list = done.list ∙ sym (ap (λ o. o.list) out); places = done.room }
-
-pub reduce-requires : goal.reduce-requires
-reduce-requires g c =
-    let b = c.args.self.now in
-    let rs = b.chains.records.now in
-    let known = front_known rs b.apart b.whole c.in_ok-order.order (search rules) in
-    let below : next_of rs 0 < length rs = front_below rs b.apart b.whole known.0 in
-    let same : c.in_ok-order.order ≡ order_of rs c.first-here.result = known.1 ∙ ap (order_of rs) (sym c.first-here.ensures) in
-    record {
-      here_in_bounds = omega (arith, below, c.first-here.ensures);
-      shares_bound = omega (arith, ap (λ o. o.shares) same, c.if-shares-order.false);
-    }
+    search rules
 
 pub invariant_of-self-else-shares-order-2 : goal.invariant_of-self-else-shares-order-2
 invariant_of-self-else-shares-order-2 g c =
@@ -57,7 +33,7 @@ invariant_of-self-else-shares-order-2 g c =
     (taken_part b.chains.records.now b.chains.count (held b) known.0 c.in_ok-order.order c.args.shares c.reduce.new.self.records.now
     c.first-here.result c.reduce.new.self.count known.1 c.if-shares-order.false c.if-shares-order-2.false
     c.first-here.ensures c.reduce.ensures.records c.reduce.ensures.count).held in
-    record { few = k.0; counted = k.1.0; apart = k.1.1.0; whole = k.1.1.1.0; sound = k.1.1.1.1.0 }
+    search rules
 
 pub returns-else-shares-order-2 : goal.returns-else-shares-order-2
 returns-else-shares-order-2 g c =
@@ -70,4 +46,4 @@ returns-else-shares-order-2 g c =
     let out = take_part (orders_in rs) c.in_ok-order.order (behind rs) c.args.shares
     (orders_front rs b.chains.count (held b) known.0 ∙ ap (λ o. o ∷ behind rs) (sym known.1))
     c.if-shares-eq0.false c.if-shares-order.false c.if-shares-order-2.false in
-    record { answer = sym (ap (λ o. o.answer) out); list = done.list ∙ sym (ap (λ o. o.list) out); places = done.room }
+    search rules
