@@ -1,5 +1,5 @@
 // Up to 32 orders by arrival, oldest first. Who is first by priority is worked out when asked.
-ghost use Rattle.std.specs.Prelude.{◌≡◌, ◌<◌, ◌≤◌, true, [], ◌∷◌, ◌++◌, length, get_or, ◌==◌, slice_index_or, slice_set, position, sum_by, filter};
+ghost use Rattle.std.specs.Prelude.{◌≡◌, ◌<◌, ◌≤◌, [], ◌∷◌, ◌++◌, length, get_or, ◌==◌, slice_index_or, slice_set, position, sum_by, filter};
 ghost use Rattle.std.specs.List.{remove};
 ghost use Rattle.books.specs.Lists.{reduced};
 ghost use Rattle.books.specs.Packing.{blank, Front};
@@ -45,6 +45,7 @@ impl Arrivals {
         self.count = 0;
     }
 
+    // The spots that are in use.
     fn held(&self) -> &[Standing]
         ensures orders { result.now ≡ self.now }
         ensures size { length self.now ≤ 32 }
