@@ -5,9 +5,10 @@ use Rattle.books.specs.Lists.{taken, AllSound}
 use Rattle.books.specs.declared.standing.Standing.{Standing}
 use Rattle.rules.specs.Sides.{Rule, bids, asks}
 use Rattle.rules.specs.declared.price.Quote.{Quote}
-use Rattle.matching.specs.Looking.{Books, best_in, pair, either_pair, pair_in, paired, pair_step, look_step, standing_in, looked, Looks}
+use Rattle.matching.specs.Looking.{Books, best_in, pair, either_pair, pair_in, paired, trade_in, pair_step, look_step, standing_in, looked, Looks}
 use Rattle.matching.specs.Trades.{Step}
 use Rattle.matching.specs.declared.pair.Pair.{Pair}
+use Rattle.matching.specs.declared.pair.Pair.TheVariants.{Sale, Purchase}
 use Rattle.matching.specs.declared.trade.Trade.{Trade}
 use Rattle.matching.proofs.Fronts.{none_some, some_same, sound_shares, taken_all, taken_least, taken_sound}
 use Rattle.matching.proofs.Going.{steps_but_one, Progress, progress_none, progress_more, progress_state, progress_count, progress_list}
@@ -40,16 +41,16 @@ AllKept books = AllSound books.bids × AllSound books.asks × AllSound books.dar
 
 module _ (increment : ℕ) (away : Quote) where
   -- which of the two pairs it is
-  pub either : (sale purchase : Option Trade) (p : Pair) → either_pair sale purchase ≡ Some p → ((sale ≡ Some p.trade) × (p.sale ≡ true)) ⊎ ((purchase ≡ Some p.trade) × (p.sale ≡ false))
-  either (Some t) purchase p is = let same = some_same is in inl (ap (λ q. Some q.trade) same, ap (λ q. q.sale) (sym same))
-  either None (Some t) p is = let same = some_same is in inr (ap (λ q. Some q.trade) same, ap (λ q. q.sale) (sym same))
+  pub either : (sale purchase : Option Trade) (p : Pair) → either_pair sale purchase ≡ Some p → ((t : Trade) × (sale ≡ Some t) × (p ≡ Sale t)) ⊎ ((t : Trade) × (purchase ≡ Some t) × (p ≡ Purchase t))
+  either (Some t) purchase p is = inl (t, refl, sym (some_same is))
+  either None (Some t) p is = inr (t, refl, sym (some_same is))
   either None None p is = absurd (none_some is)
 
   pub paired_fewer : (books : Books) (p : Pair) → pair_in increment away books ≡ Some p → AllKept books → standing_in (paired p books) < standing_in books
   paired_fewer books p is kept =
       elim (either (pair bids increment (best_in away books) books.asks books.dark_bids) (pair asks increment (best_in away books) books.bids books.dark_asks) p is) [
-        | inl h ↦ rw h.1 (omega (arith, pair_fewer bids increment (best_in away books) books.asks books.dark_bids p.trade h.0 kept.1 kept.2))
-        | inr h ↦ rw h.1 (omega (arith, pair_fewer asks increment (best_in away books) books.bids books.dark_asks p.trade h.0 kept.0 kept.3))
+        | inl h ↦ rw h.2 (omega (arith, pair_fewer bids increment (best_in away books) books.asks books.dark_bids h.0 h.1 kept.1 kept.2))
+        | inr h ↦ rw h.2 (omega (arith, pair_fewer asks increment (best_in away books) books.bids books.dark_asks h.0 h.1 kept.0 kept.3))
       ]
 
   -- the steps that are left suffice
@@ -63,7 +64,7 @@ module _ (increment : ℕ) (away : Quote) where
     enough = omega arith;
   }
 
-  pub looking_more : (start : Books) (list : List Trade) (books : Books) (listed : List Trade) (count : ℕ) (p : Pair) → Looking start list books listed count → pair_in increment away books ≡ Some p → AllKept books → Looking start list (paired p books) (set listed count p.trade) (count + 1)
+  pub looking_more : (start : Books) (list : List Trade) (books : Books) (listed : List Trade) (count : ℕ) (p : Pair) → Looking start list books listed count → pair_in increment away books ≡ Some p → AllKept books → Looking start list (paired p books) (set listed count (trade_in p)) (count + 1)
   looking_more start list books listed count p l is kept =
       let down = paired_fewer books p is kept in
       record {
@@ -74,7 +75,7 @@ module _ (increment : ℕ) (away : Quote) where
       }
 
   -- the same, of what a turn of the loop leaves
-  pub looking_turn : (start : Books) (list : List Trade) (books after : Books) (listed more : List Trade) (count : ℕ) (p : Pair) → Looking start list books listed count → pair_in increment away books ≡ Some p → AllKept books → after ≡ paired p books → more ≡ set listed count p.trade → Looking start list after more (count + 1)
+  pub looking_turn : (start : Books) (list : List Trade) (books after : Books) (listed more : List Trade) (count : ℕ) (p : Pair) → Looking start list books listed count → pair_in increment away books ≡ Some p → AllKept books → after ≡ paired p books → more ≡ set listed count (trade_in p) → Looking start list after more (count + 1)
   looking_turn start list books after listed more count p l is kept ea em = rw (ea, em) (looking_more start list books listed count p l is kept)
 
   pub turn_fewer : (books after : Books) (p : Pair) → pair_in increment away books ≡ Some p → AllKept books → after ≡ paired p books → standing_in after < standing_in books
@@ -89,15 +90,15 @@ module _ (increment : ℕ) (away : Quote) where
         list_is = progress_list (look_step increment away) (standing_in start) start list books listed count l.so_far stop;
       }
 
-  pub paired_sound : (p : Pair) (b : Bool) (books : Books) → AllKept books → AllSound (cond b books.bids (taken books.bids p.trade.shares).list) × AllSound (cond b (taken books.asks p.trade.shares).list books.asks) × AllSound (cond b (taken books.dark_bids p.trade.shares).list books.dark_bids) × AllSound (cond b books.dark_asks (taken books.dark_asks p.trade.shares).list)
-  paired_sound p true books k = (k.0, taken_sound books.asks p.trade.shares k.1, taken_sound books.dark_bids p.trade.shares k.2, k.3)
-  paired_sound p false books k = (taken_sound books.bids p.trade.shares k.0, k.1, k.2, taken_sound books.dark_asks p.trade.shares k.3)
+  pub paired_sound : (p : Pair) (books : Books) → AllKept books → AllKept (paired p books)
+  paired_sound (Sale t) books k = (k.0, taken_sound books.asks t.shares k.1, taken_sound books.dark_bids t.shares k.2, k.3)
+  paired_sound (Purchase t) books k = (taken_sound books.bids t.shares k.0, k.1, k.2, taken_sound books.dark_asks t.shares k.3)
 
   pub look_falls : (books : Books) (o : Option Pair) (s : Step Books) → pair_in increment away books ≡ o → pair_step books o ≡ Some s → AllKept books → AllKept s.after × (standing_in s.after < standing_in books)
   look_falls books None s is step kept = absurd (none_some step)
   look_falls books (Some p) s is step kept =
       subst (λ r. AllKept r.after × (standing_in r.after < standing_in books)) (some_same step)
-      (paired_sound p p.sale books kept, paired_fewer books p is kept)
+      (paired_sound p books kept, paired_fewer books p is kept)
 
   pair_two : (rule : Rule) (best : Quote) (displayed dark : List Standing) (t : Trade) → pair rule increment best displayed dark ≡ Some t → 2 ≤ length displayed + length dark
   pair_two rule best [] dark t is = absurd (none_some is)
@@ -108,8 +109,8 @@ module _ (increment : ℕ) (away : Quote) where
   look_two books None s is step = absurd (none_some step)
   look_two books (Some p) s is step =
       elim (either (pair bids increment (best_in away books) books.asks books.dark_bids) (pair asks increment (best_in away books) books.bids books.dark_asks) p is) [
-        | inl h ↦ omega (arith, pair_two bids (best_in away books) books.asks books.dark_bids p.trade h.0)
-        | inr h ↦ omega (arith, pair_two asks (best_in away books) books.bids books.dark_asks p.trade h.0)
+        | inl h ↦ omega (arith, pair_two bids (best_in away books) books.asks books.dark_bids h.0 h.1)
+        | inr h ↦ omega (arith, pair_two asks (best_in away books) books.bids books.dark_asks h.0 h.1)
       ]
 
   -- looking over makes at least one trade fewer than orders stand

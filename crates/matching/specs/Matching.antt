@@ -26,7 +26,7 @@ front_price [] = None
 front_price (o ∷ os) = Some o.price
 
 abbrev pub best_against : Rule → Around → (front : Option ℕ) → Quote
-best_against rule around front = best_of (placed rule.name front around.behind) around.away
+best_against rule around front = best_of (placed rule.name front around.behind) around.away.quote
 
 -- the front order, if its price passes
 abbrev pub front_if : (ℕ → Bool) → List Standing → Option Standing
@@ -36,7 +36,7 @@ front_if passes (o ∷ os) = cond (passes o.price) (Some o) None
 -- within the bound and, unless the entry is directed, not behind the away best
 abbrev pub displayed_passes : Rule → Entry → Around → ℕ → Bool
 displayed_passes rule entry around p =
-    at_or_ahead rule p entry.bound && (entry.directed || spared rule p (on rule.name around.away))
+    at_or_ahead rule p entry.bound && (entry.directed || spared rule p (on rule.name around.away.quote))
 
 abbrev pub displayed_candidate : Rule → Entry → Around → List Standing → Option Standing
 displayed_candidate rule entry around = front_if (displayed_passes rule entry around)
@@ -45,7 +45,7 @@ displayed_candidate rule entry around = front_if (displayed_passes rule entry ar
 abbrev pub dark_passes : Rule → Entry → Around → Quote → ℕ → Bool
 dark_passes rule entry around best p =
     at_or_ahead rule p entry.bound
-    && (better rule around.increment best p || (entry.large && spared rule p (on rule.name best)))
+    && (better rule around.away.increment best p || (entry.large && spared rule p (on rule.name best)))
 
 abbrev pub dark_candidate : Rule → Entry → Around → (front : Option ℕ) → List Standing → Option Standing
 dark_candidate rule entry around front = front_if (dark_passes rule entry around (best_against rule around front))

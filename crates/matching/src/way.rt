@@ -33,10 +33,7 @@ pub struct Rest {
 fn reached<S: Side>(bound: u32, price: Option<u32>) -> bool
     ensures { result ≡ reached S.Side.rule bound price }
 {
-    match price {
-        None => false,
-        Some(p) => at_or_ahead::<S>(p, bound),
-    }
+    price.is_some_and(|p| at_or_ahead::<S>(p, bound))
 }
 
 // S is the side of the orders that the entry met.

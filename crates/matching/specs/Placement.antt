@@ -1,6 +1,6 @@
 -- What placing an entry leaves in four books.
 use Rattle.std.specs.Prelude.{◌≡◌, List, length}
-use Rattle.market.specs.Sets.{seen_from}
+use Rattle.matching.specs.Sets.{seen_from}
 use Rattle.matching.specs.Looking.{Books}
 use Rattle.matching.specs.Placing.{Placed}
 use Rattle.matching.specs.Trades.{written}
