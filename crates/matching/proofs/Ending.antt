@@ -24,7 +24,7 @@ module _ (rule own : Rule) (increment : ℕ) (away : Quote) (entry : Entry) (vie
       Places (placed rule own increment away places dark_places entry view) (record { displayed = displayed; dark = dark; own = owned; own_dark = owned_dark }) list listed (record { shares = left.shares; way = way; trades = left.trades })
   placed_by places dark_places behind displayed dark owned owned_dark list listed left elsewhere front way eb leaves ea ef ew eo ek =
       let l : Leaves (met rule increment away entry view) displayed dark list listed left =
-          subst (λ b. Leaves (matched rule entry (record { away = record { increment = increment; quote = away }; behind = b }) (record { displayed = view.displayed; dark = view.dark; shares = entry.shares })) displayed dark list listed left) eb leaves in
+      subst (λ b. Leaves (matched rule entry (record { away = record { increment = increment; quote = away }; behind = b }) (record { displayed = view.displayed; dark = view.dark; shares = entry.shares })) displayed dark list listed left) eb leaves in
       record {
         view_is = rw (eo, ek, ew, ea, ef, l.displayed_is, l.dark_is, l.shares_is) refl;
         shares_is = l.shares_is;

@@ -109,11 +109,12 @@ impl<
         ensures { result ≡ pair_in away.now.increment away.now.quote (⟦<Self as BookSet>⟧.lists self.now) }
     {
         let best = away.joined(self.ours());
-        let sale = front_pair::<Bids, DA, KB>(&best, &self.asks.displayed, &self.bids.dark);
-        sale.map(Pair::Sale).or_else(|| {
-            front_pair::<Asks, DB, KA>(&best, &self.bids.displayed, &self.asks.dark)
-                .map(Pair::Purchase)
-        })
+        match front_pair::<Bids, DA, KB>(&best, &self.asks.displayed, &self.bids.dark) {
+            Some(trade) => Some(Pair::Sale(trade)),
+            None => front_pair::<Asks, DB, KA>(&best, &self.bids.displayed, &self.asks.dark).map(
+                Pair::Purchase,
+            ),
+        }
     }
 
     // Trades a pair, from the asks and the dark bids or from the bids and the dark asks.
@@ -212,6 +213,7 @@ impl<
     }
 
     fn look_over(&mut self, away: BestPrices, list: &mut [Trade]) -> usize {
+        // counted by hand: the count is the answer, and names the record
         let mut trades = 0;
         while let Some(pair) = self.next_pair(&away) {
             self.trade_pair(pair);

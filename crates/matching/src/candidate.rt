@@ -59,7 +59,9 @@ pub fn front_price<B: Book>(book: &B) -> Option<u32>
 pub fn best_against<S: Side>(around: &Around, front: Option<u32>) -> BestPrices
     ensures { result ≡ record { increment = around.now.away.increment; quote = best_against S.Side.rule around.now front } }
 {
-    around.away.joined(Quote::placed(S::name(), front, around.behind))
+    around
+        .away
+        .joined(Quote::placed(S::name(), front, around.behind))
 }
 
 // The front displayed order, within the bound and, unless the entry is directed, not behind the away best.

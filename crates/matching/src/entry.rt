@@ -58,6 +58,7 @@ pub fn match_entry<D: Book, K: Book<Side = D::Side>>(
     ensures places { (D.Book.room met.new.displayed ≡ D.Book.room met.old.displayed) × (K.Book.room met.new.dark ≡ K.Book.room met.old.dark) }
 {
     let mut shares = active.shares;
+    // counted by hand: the count is a part of the answer, and names the record
     let mut trades = 0;
     while let Some(candidate) = next_candidate(active, around, met, shares) {
         let trade = trade_with(active, candidate, shares);

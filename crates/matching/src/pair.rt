@@ -17,7 +17,7 @@ pub enum Pair {
 }
 
 impl Pair {
-    pub fn trade(self) -> Trade
+    pub(crate) fn trade(self) -> Trade
         ensures { result ≡ trade_in self }
     {
         match self {

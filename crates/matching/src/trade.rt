@@ -1,7 +1,7 @@
 // The record of a trade, and the caller's list of them.
 ghost use Rattle.std.specs.Prelude.{◌≡◌, slice_set};
 
-#[derive(Clone, Copy, PartialEq)]
+#[derive(Clone, Copy, PartialEq, Eq, Default)]
 pub struct Trade {
     pub active: u32,
     pub standing: u32,
