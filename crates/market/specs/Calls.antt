@@ -2,13 +2,15 @@
 use Rattle.std.specs.Prelude.{◌≡◌, ℕ, ◌+◌, ◌-◌, Bool, true, false, not, ◌&&◌, ◌||◌, List, [], ◌++◌, length, replicate, is_some, Some, None, Ok, Err, Option, Result, ◌==◌, count_ones, nat_le, nat_lt}
 use Rattle.books.specs.Lists.{shares_at}
 use Rattle.books.specs.declared.standing.Standing.{Standing}
+use Rattle.market.specs.Marketplaces.{is_marketplace}
 use Rattle.market.specs.Quoting.{no_quote, away_of, quoted, dropped, is_aside, with_aside}
-use Rattle.market.specs.Sets.{Rooms, empty_books, own_list, room_left, placed_in, seen_from, find_in, without_in, open_shares}
+use Rattle.matching.specs.Sets.{Rooms, empty_books, own_list, room_left, placed_in, seen_from, find_in, without_in, open_shares}
 use Rattle.market.specs.declared.answers.Aside.{Aside}
 use Rattle.market.specs.declared.answers.Cancelled.{Cancelled}
 use Rattle.market.specs.declared.answers.Entered.{Entered}
 use Rattle.market.specs.declared.phase.Phase.{Phase}
 use Rattle.market.specs.declared.phase.Phase.TheVariants.{Open, Halted, Closed}
+use Rattle.market.specs.declared.marketplace.Marketplace.{Marketplace}
 use Rattle.matching.specs.Looking.{Books, best_in, ours_in, standing_in, looked}
 use Rattle.matching.specs.Placing.{Placed}
 use Rattle.matching.specs.Trades.{Steps}
@@ -18,10 +20,11 @@ use Rattle.matching.specs.declared.trade.Trade.{Trade}
 use Rattle.rules.specs.Better.{on}
 use Rattle.rules.specs.Forms.{bound, large}
 use Rattle.rules.specs.Prices.{valid_price}
-use Rattle.rules.specs.Refusals.{check}
+use Rattle.rules.specs.Refusals.{check, Answers}
 use Rattle.rules.specs.Sheets.{increment_at, unit_at}
 use Rattle.rules.specs.declared.form.Form.{Form}
 use Rattle.rules.specs.declared.form.HandedBack.{HandedBack}
+use Rattle.rules.specs.declared.price.BestPrices.{BestPrices}
 use Rattle.rules.specs.declared.price.Quote.{Quote}
 use Rattle.rules.specs.declared.refusal.Refusal.{Refusal}
 use Rattle.rules.specs.declared.refusal.Refusal.TheVariants.{MarketClosed, MarketHalted, OtherClass, NumbersIssued, OwnBookFull, NotStanding, NoMarketplace, AlreadyAside, BadQuotePrice, WrongPhase, ShortTradeList}
@@ -90,6 +93,11 @@ not_halted Open = true
 not_halted Halted = false
 not_halted Closed = true
 
+-- what a check answers that passes or refuses
+abbrev pub passed : Option Refusal → Result (Unit {0}) Refusal
+passed None = Ok tt
+passed (Some e) = Err e
+
 -- all calls but questions come first, the caller's list of n records last
 abbrev pub first_checked : State → Option Refusal → Option Refusal
 first_checked s later = check (not_closed s.phase) MarketClosed later
@@ -98,6 +106,9 @@ abbrev pub list_checked : State → (n : ℕ) → Option Refusal
 list_checked s n = check (nat_le (standing_in s.books) n) ShortTradeList None
 
 -- Looking over, which only an open market does
+
+abbrev pub away_at : State → BestPrices
+away_at s = record { increment = s.increment; quote = away_of s.quotes }
 
 abbrev pub look_in : Phase → (increment : ℕ) → (away : Quote) → Books → Steps Books
 look_in Open increment away books = looked increment away books
@@ -170,10 +181,12 @@ entered_by s form p l = record {
   trades = p.trades ++ l.trades;
 }
 
+abbrev pub entered_at : State → Form → Done Entered
+entered_at s form =
+    entered_by s form (placed_at s form) (looked s.increment (away_of s.quotes) (booked_at s form (placed_at s form)).books)
+
 abbrev pub entered : State → Form → (n : ℕ) → Done Entered
-entered s form n =
-    unless (entry_refusal s form n) s
-    (entered_by s form (placed_at s form) (looked s.increment (away_of s.quotes) (booked_at s form (placed_at s form)).books))
+entered s form n = unless (entry_refusal s form n) s (entered_at s form)
 
 -- Cancel
 
@@ -192,9 +205,6 @@ cancelled s number n =
 
 -- Quote notice and set-aside
 
-abbrev pub is_marketplace : ℕ → Bool
-is_marketplace m = nat_le 1 m && nat_le m 8
-
 abbrev pub valid_quote : (increment : ℕ) → Option ℕ → Bool
 valid_quote increment None = true
 valid_quote increment (Some p) = valid_price increment p
@@ -205,6 +215,10 @@ marketplace_checks phase aside m later =
 
 abbrev pub marketplace_checked : State → (m : ℕ) → Option Refusal → Option Refusal
 marketplace_checked s m later = marketplace_checks s.phase s.aside m later
+
+-- the marketplace of that number, where its checks pass
+abbrev pub NumberedFor : State → (m : ℕ) → Result Marketplace Refusal → Type 0
+NumberedFor s m = Answers (marketplace_checked s m None) (λ marketplace. marketplace.number ≡ m) (λ e f. f ≡ e)
 
 abbrev pub notice_refusal : State → (m : ℕ) → Option ℕ → (n : ℕ) → Option Refusal
 notice_refusal s m price n =

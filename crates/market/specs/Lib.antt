@@ -1,7 +1,6 @@
 pub mod Phases
+pub mod Marketplaces
 pub mod Quoting
-pub mod Sets
-pub mod Placement
 pub mod Calls
 pub mod Handling
 pub mod Bounds

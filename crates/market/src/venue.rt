@@ -4,7 +4,7 @@ ghost use Rattle.market.specs.Calls.{State, fresh, entered, AnswersEntry, cancel
 ghost use Rattle.matching.specs.Trades.{written};
 
 use crate::answers::{Aside, Cancelled, Entered};
-use crate::book_set::BookSet;
+use matching::book_set::BookSet;
 use matching::trade::Trade;
 use rules::form::{Form, HandedBack};
 use rules::refusal::Refusal;

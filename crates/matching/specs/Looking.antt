@@ -1,5 +1,5 @@
 -- Looking over the books.
-use Rattle.std.specs.Prelude.{◌≡◌, ℕ, ◌+◌, min, true, false, cond, ◌&&◌, List, [], ◌∷◌, length, Some, None, Option}
+use Rattle.std.specs.Prelude.{◌≡◌, ℕ, ◌+◌, min, true, cond, ◌&&◌, List, [], ◌∷◌, length, Some, None, Option}
 use Rattle.books.specs.Lists.{taken}
 use Rattle.books.specs.declared.standing.Standing.{Standing}
 use Rattle.rules.specs.Better.{best_of, better}
