@@ -2,15 +2,13 @@
 use Rattle.std.specs.Prelude.{◌≡◌, ℕ, ◌+◌, ◌-◌, Bool, true, false, not, ◌&&◌, ◌||◌, List, [], ◌++◌, length, replicate, is_some, Some, None, Ok, Err, Option, Result, ◌==◌, count_ones, nat_le, nat_lt}
 use Rattle.books.specs.Lists.{shares_at}
 use Rattle.books.specs.declared.standing.Standing.{Standing}
-use Rattle.market.specs.Marketplaces.{is_marketplace}
-use Rattle.market.specs.Quoting.{no_quote, away_of, quoted, dropped, is_aside, with_aside}
+use Rattle.market.specs.Quoting.{is_marketplace, no_quote, away_of, quoted, dropped, is_aside, with_aside}
 use Rattle.matching.specs.Sets.{Rooms, empty_books, own_list, room_left, placed_in, seen_from, find_in, without_in, open_shares}
 use Rattle.market.specs.declared.answers.Aside.{Aside}
 use Rattle.market.specs.declared.answers.Cancelled.{Cancelled}
 use Rattle.market.specs.declared.answers.Entered.{Entered}
 use Rattle.market.specs.declared.phase.Phase.{Phase}
 use Rattle.market.specs.declared.phase.Phase.TheVariants.{Open, Halted, Closed}
-use Rattle.market.specs.declared.marketplace.Marketplace.{Marketplace}
 use Rattle.matching.specs.Looking.{Books, best_in, ours_in, standing_in, looked}
 use Rattle.matching.specs.Placing.{Placed}
 use Rattle.matching.specs.Trades.{Steps}
@@ -20,7 +18,7 @@ use Rattle.matching.specs.declared.trade.Trade.{Trade}
 use Rattle.rules.specs.Better.{on}
 use Rattle.rules.specs.Forms.{bound, large}
 use Rattle.rules.specs.Prices.{valid_price}
-use Rattle.rules.specs.Refusals.{check, Answers}
+use Rattle.rules.specs.Refusals.{check}
 use Rattle.rules.specs.Sheets.{increment_at, unit_at}
 use Rattle.rules.specs.declared.form.Form.{Form}
 use Rattle.rules.specs.declared.form.HandedBack.{HandedBack}
@@ -215,10 +213,6 @@ marketplace_checks phase aside m later =
 
 abbrev pub marketplace_checked : State → (m : ℕ) → Option Refusal → Option Refusal
 marketplace_checked s m later = marketplace_checks s.phase s.aside m later
-
--- the marketplace of that number, where its checks pass
-abbrev pub NumberedFor : State → (m : ℕ) → Result Marketplace Refusal → Type 0
-NumberedFor s m = Answers (marketplace_checked s m None) (λ marketplace. marketplace.number ≡ m) (λ e f. f ≡ e)
 
 abbrev pub notice_refusal : State → (m : ℕ) → Option ℕ → (n : ℕ) → Option Refusal
 notice_refusal s m price n =

@@ -1,6 +1,6 @@
 pub mod Phases
-pub mod Marketplaces
 pub mod Quoting
 pub mod Calls
+pub mod Marketplaces
 pub mod Handling
 pub mod Bounds

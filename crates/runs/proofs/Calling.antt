@@ -7,9 +7,9 @@ use Rattle.books.specs.Histories.{Each}
 use Rattle.books.specs.Lists.{find}
 use Rattle.market.proofs.Fitting.{trades_fit}
 use Rattle.market.specs.Bounds.{SoundBooks}
-use Rattle.market.specs.Calls.{State, Done, unless, with_books, with_phase, with_quotes, look, look_in, then_look, list_checked, first_checked, valid_quote, is_marketplace, not_closed, not_halted, cancel_refusal, shares_of, notice_refusal, aside_refusal, resume_refusal}
-use Rattle.market.specs.Quoting.{away_of, quoted, dropped, with_aside, is_aside}
-use Rattle.market.specs.Sets.{find_in, find_either, first_found, unless_found, without_in}
+use Rattle.market.specs.Calls.{State, Done, unless, with_books, with_phase, with_quotes, look, look_in, then_look, list_checked, first_checked, valid_quote, not_closed, not_halted, cancel_refusal, shares_of, notice_refusal, aside_refusal, resume_refusal}
+use Rattle.market.specs.Quoting.{is_marketplace, away_of, quoted, dropped, with_aside, is_aside}
+use Rattle.matching.specs.Sets.{find_in, find_either, first_found, unless_found, without_in}
 use Rattle.market.specs.declared.answers.Aside.{Aside}
 use Rattle.market.specs.declared.answers.Cancelled.{Cancelled}
 use Rattle.market.specs.declared.phase.Phase.{Phase}

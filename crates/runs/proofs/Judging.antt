@@ -112,23 +112,23 @@ module _ (rule : Rule) (law : Lawful rule) (best_is : (front behind : Option ℕ
         | false ↦ λ _ e. absurd (none_some e)
       ] refl is
 
-  module _ (entry : Entry) (around : Around) (two : 2 ≤ around.increment) where
+  module _ (entry : Entry) (around : Around) (two : 2 ≤ around.away.increment) where
     -- a price at which a dark order passes, and before which a displayed candidate does not come, is ahead of our front
     module _ (p : ℕ) (x : Standing) (xs : List Standing) (passes : dark_passes rule entry around (best_against rule around (Some x.price)) p ≡ true) where
       within : rule.ahead entry.bound p ≡ false
       within = not-true (rule.ahead entry.bound p) (and_parts (at_or_ahead rule p entry.bound) _ passes).0
 
-      not_past_best : (b : ℕ) → first_of rule (Some x.price) (on rule.name around.away) ≡ Some b → rule.ahead b p ≡ false
+      not_past_best : (b : ℕ) → first_of rule (Some x.price) (on rule.name around.away.quote) ≡ Some b → rule.ahead b p ≡ false
       not_past_best b is =
           let best : Quote = best_against rule around (Some x.price) in
-          let at : on rule.name best ≡ Some b = best_is (Some x.price) around.behind around.away ∙ is in
+          let at : on rule.name best ≡ Some b = best_is (Some x.price) around.behind around.away.quote ∙ is in
           ⊎_elim
-          (λ (so : better rule around.increment best p ≡ true).
-          not_both rule law p b (better_ahead around.increment best b p two at so))
+          (λ (so : better rule around.away.increment best p ≡ true).
+          not_both rule law p b (better_ahead around.away.increment best b p two at so))
           (λ (so : (entry.large && spared rule p (on rule.name best)) ≡ true).
           let spared_so : spared rule p (on rule.name best) ≡ true = (and_parts entry.large (spared rule p (on rule.name best)) so).1 in
           not-true (rule.ahead b p) (subst (λ o. spared rule p o ≡ true) at spared_so))
-          (or_cases (better rule around.increment best p) _ (and_parts (at_or_ahead rule p entry.bound) _ passes).1)
+          (or_cases (better rule around.away.increment best p) _ (and_parts (at_or_ahead rule p entry.bound) _ passes).1)
 
       module _ (behind : rule.ahead p x.price ≡ false) where
         front_within : at_or_ahead rule x.price entry.bound ≡ true
@@ -152,7 +152,7 @@ module _ (rule : Rule) (law : Lawful rule) (best_is : (front behind : Option ℕ
         front_candidate =
             ap (λ b. cond b (Some x) None)
             (and_from (at_or_ahead rule x.price entry.bound) _ front_within
-            (or_right entry.directed _ (front_spared (on rule.name around.away) not_past_best)))
+            (or_right entry.directed _ (front_spared (on rule.name around.away.quote) not_past_best)))
 
       ahead_front : ((y : Standing) → displayed_candidate rule entry around (x ∷ xs) ≡ Some y → rule.ahead p y.price ≡ true) → rule.ahead p x.price ≡ true
       ahead_front first =
@@ -162,16 +162,16 @@ module _ (rule : Rule) (law : Lawful rule) (best_is : (front behind : Option ℕ
     in_front p [] sorted passes first = tt
     in_front p (x ∷ xs) sorted passes first = before_all p x xs (ahead_front p x xs passes first) sorted.0
 
-    small_better : (best : Quote) (p : ℕ) → dark_passes rule entry around best p ≡ true → entry.large ≡ false → better rule around.increment best p ≡ true
+    small_better : (best : Quote) (p : ℕ) → dark_passes rule entry around best p ≡ true → entry.large ≡ false → better rule around.away.increment best p ≡ true
     small_better best p passes small =
         ⊎_elim (λ t. t)
         (λ (so : (entry.large && spared rule p (on rule.name best)) ≡ true).
         absurd (both_ways entry.large small (and_parts entry.large _ so).0))
-        (or_cases (better rule around.increment best p) _ (and_parts (at_or_ahead rule p entry.bound) _ passes).1)
+        (or_cases (better rule around.away.increment best p) _ (and_parts (at_or_ahead rule p entry.bound) _ passes).1)
 
-  pub match_judged : (entry : Entry) (increment : ℕ) (away : Quote) (own : List Standing) (scene : Scene) (c : Candidate) → 2 ≤ increment → Pairs (StandsBefore rule) scene.displayed → candidate rule entry (record { increment = increment; behind = front_price own; away = away }) scene ≡ Some c → Judged rule increment away entry.large scene.displayed scene.dark own (trade_with entry c scene.shares)
+  pub match_judged : (entry : Entry) (increment : ℕ) (away : Quote) (own : List Standing) (scene : Scene) (c : Candidate) → 2 ≤ increment → Pairs (StandsBefore rule) scene.displayed → candidate rule entry (record { away = record { increment = increment; quote = away }; behind = front_price own }) scene ≡ Some c → Judged rule increment away entry.large scene.displayed scene.dark own (trade_with entry c scene.shares)
   match_judged entry increment away own scene c two sorted is =
-      let around : Around = record { increment = increment; behind = front_price own; away = away } in
+      let around : Around = record { away = record { increment = increment; quote = away }; behind = front_price own } in
       let best : Quote = best_against rule around (front_price scene.displayed) in
       let choice : c.dark ≡ true → (dark_candidate rule entry around (front_price scene.displayed) scene.dark ≡ Some c.order) × ((x : Standing) → displayed_candidate rule entry around scene.displayed ≡ Some x → rule.ahead c.order.price x.price ≡ true) =
       λ dark. chosen_dark (displayed_candidate rule entry around scene.displayed) (dark_candidate rule entry around (front_price scene.displayed) scene.dark) c (opens rule entry around scene c is).1 dark in

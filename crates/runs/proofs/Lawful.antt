@@ -7,7 +7,7 @@ use Rattle.books.specs.Histories.{Each}
 use Rattle.books.specs.Lists.{AllSound}
 use Rattle.books.specs.declared.standing.Standing.{Standing}
 use Rattle.market.specs.Calls.{State, fresh}
-use Rattle.market.specs.Sets.{Rooms}
+use Rattle.matching.specs.Sets.{Rooms}
 use Rattle.matching.specs.Looking.{Books}
 use Rattle.matching.specs.Trades.{written}
 use Rattle.matching.specs.declared.trade.Trade.{Trade}

@@ -10,10 +10,10 @@ use Rattle.books.specs.Lists.{AllSound, sound, front_of, taken}
 use Rattle.books.specs.declared.standing.Standing.{Standing}
 use Rattle.market.specs.Calls.{State}
 use Rattle.market.specs.Quoting.{away_of}
-use Rattle.market.specs.Sets.{met_rule, own_rule, seen_from, facing}
+use Rattle.matching.specs.Sets.{met_rule, own_rule, seen_from, facing}
 use Rattle.matching.proofs.Fronts.{none_some, some_same, sound_shares}
 use Rattle.matching.proofs.Pairs.{kept_some, either, look_falls, AllKept}
-use Rattle.matching.specs.Looking.{Books, best_in, trade_of, pair, either_pair, pair_in, paired, pair_step, look_step, standing_in, looked}
+use Rattle.matching.specs.Looking.{Books, best_in, trade_of, pair, either_pair, pair_in, paired, trade_in, pair_step, look_step, standing_in, looked}
 use Rattle.matching.specs.Matching.{front_price, at_or_ahead}
 use Rattle.matching.specs.Placing.{View}
 use Rattle.matching.specs.Trades.{Step}
@@ -144,15 +144,17 @@ module _ (increment : ℕ) (away : Quote) (issued : ℕ) (two : 2 ≤ increment)
         weighed = λ m. omega (arith, pair_weighed side issued v n f.0 f.1 t f.2 f.3 f.4 m, amount_seen side left m, amount_facing side b m);
       }
 
+  paired_stepped : (b : Books) (p : Pair) → pair_in increment away b ≡ Some p → Neat issued b → StepOf b (record { trade = trade_in p; after = paired p b })
+  paired_stepped b p is neat =
+      let Step : Pair → Type 0 = λ q. StepOf b (record { trade = trade_in q; after = paired q b }) in
+      elim (either increment away (pair bids increment (best_in away b) b.asks b.dark_bids) (pair asks increment (best_in away b) b.bids b.dark_asks) p is) [
+        | inl h ↦ subst Step (sym h.2) (pair_stepped Ask b h.0 neat h.1)
+        | inr h ↦ subst Step (sym h.2) (pair_stepped Bid b h.0 neat h.1)
+      ]
+
   look_stepped : (b : Books) (o : Option Pair) (s : Step Books) → pair_in increment away b ≡ o → pair_step b o ≡ Some s → Neat issued b → StepOf b s
   look_stepped b None s is step neat = absurd (none_some step)
-  look_stepped b (Some p) s is step neat =
-      let whole : (c : Books) → c ≡ paired p b → StepOf b (record { trade = p.trade; after = c }) → StepOf b s =
-      λ c e h. subst (StepOf b) (some_same step) (subst (λ r. StepOf b (record { trade = p.trade; after = r })) e h) in
-      elim (either increment away (pair bids increment (best_in away b) b.asks b.dark_bids) (pair asks increment (best_in away b) b.bids b.dark_asks) p is) [
-        | inl h ↦ whole _ (let sale = h.1 in rw sale) (pair_stepped Ask b p.trade neat h.0)
-        | inr h ↦ whole _ (let sale = h.1 in rw sale) (pair_stepped Bid b p.trade neat h.0)
-      ]
+  look_stepped b (Some p) s is step neat = subst (StepOf b) (some_same step) (paired_stepped b p is neat)
 
   pub look_went : (b : Books) → Neat issued b → Went (look_step increment away) (λ c. c) trade_made (Neat issued) (PairedIn increment away issued) amount_in b (looked increment away b)
   look_went b neat =

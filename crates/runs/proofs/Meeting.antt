@@ -6,7 +6,7 @@ use Rattle.books.specs.Arranging.{tally}
 use Rattle.books.specs.Histories.{Each}
 use Rattle.books.specs.Lists.{front_of, taken}
 use Rattle.books.specs.declared.standing.Standing.{Standing}
-use Rattle.market.specs.Sets.{met_rule, seen_from}
+use Rattle.matching.specs.Sets.{met_rule, seen_from}
 use Rattle.matching.proofs.Fronts.{none_some, some_same, shares_open, candidate_front}
 use Rattle.matching.proofs.Turns.{standing, stands, fewer, positive, holds_shares, Sounds, after_sound}
 use Rattle.matching.specs.Looking.{Books}
@@ -71,7 +71,7 @@ module _ (side : SideName) (entry : Entry) (increment : ℕ) (away : Quote) (own
   rule = met_rule side
 
   abbrev pub around : Around
-  around = record { increment = increment; behind = front_price own; away = away }
+  around = record { away = record { increment = increment; quote = away }; behind = front_price own }
 
   abbrev view_of : Scene → View
   view_of scene = record { displayed = scene.displayed; dark = scene.dark; own = own; own_dark = own_dark }

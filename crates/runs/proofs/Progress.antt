@@ -2,7 +2,7 @@
 use Rattle.std.proofs.Common.{◌≡◌, ℕ, ◌-◌, min, Bool, true, false, List, [], ◌∷◌, ◌++◌, length, take, is_ok, is_err, Ok, Err, Result, sym, refl, ap, ◌∙◌, subst, append_assoc, append-nil, arith, length-append, length-take}
 use Rattle.std.proofs.lemmas.Bool.{both_ways}
 use Rattle.market.specs.Calls.{State, fresh}
-use Rattle.market.specs.Sets.{Rooms}
+use Rattle.matching.specs.Sets.{Rooms}
 use Rattle.matching.specs.declared.trade.Trade.{Trade}
 use Rattle.rules.specs.declared.sheet.DaySheet.{DaySheet}
 use Rattle.runs.specs.Days.{Asked, made, wrote, day}

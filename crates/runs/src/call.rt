@@ -56,22 +56,10 @@ impl Line {
         ensures { result ≡ count_in self.now }
     {
         match *self {
-            Line::Entry { answer, .. } => match answer {
-                Ok(entered) => entered.trades,
-                Err(_) => 0,
-            },
-            Line::Cancel { answer, .. } => match answer {
-                Ok(cancelled) => cancelled.trades,
-                Err(_) => 0,
-            },
-            Line::SetAside { answer, .. } => match answer {
-                Ok(aside) => aside.trades,
-                Err(_) => 0,
-            },
-            Line::Notice { answer, .. } | Line::Resume(answer) => match answer {
-                Ok(trades) => trades,
-                Err(_) => 0,
-            },
+            Line::Entry { answer, .. } => answer.map_or(0, |entered| entered.trades),
+            Line::Cancel { answer, .. } => answer.map_or(0, |cancelled| cancelled.trades),
+            Line::SetAside { answer, .. } => answer.map_or(0, |aside| aside.trades),
+            Line::Notice { answer, .. } | Line::Resume(answer) => answer.unwrap_or(0),
             Line::Halt(_) | Line::Close(_) => 0,
         }
     }

@@ -2,15 +2,15 @@
 ghost use Rattle.std.specs.Prelude.{◌≡◌, [], ◌∷◌, ◌++◌, length, is_ok, if◌then◌else◌};
 ghost use Rattle.matching.specs.Trades.{written};
 ghost use Rattle.runs.specs.Days.{made, wrote};
-ghost use Rattle.runs.specs.Plays.{Plays, PlaysDay, state_with};
+ghost use Rattle.runs.specs.Plays.{Plays, PlaysDay};
 
 use crate::call::{Call, Line};
 use crate::journal::Journal;
 use crate::turn::Turn;
 use books::book::Book;
-use market::book_set::FourBooks;
 use market::trading::Market;
 use market::venue::Venue;
+use matching::book_set::{BookSet, FourBooks};
 use matching::trade::Trade;
 use rules::form::Form;
 use rules::sheet::DaySheet;
@@ -49,6 +49,7 @@ pub fn make<V: Venue>(market: &mut V, call: Call, list: &mut [Trade]) -> Line
     }
 }
 
+#[tactic(auto, using(crate::proofs::Answering::noted_entry, crate::proofs::Answering::entered_is, crate::proofs::Answering::refused_is))]
 fn enter<V: Venue>(market: &mut V, form: Form, list: &mut [Trade]) -> Line
     ensures line { result ≡ (made (V.Venue.state market.old) (Call.Enter form) (length list.old)).line }
     ensures state { V.Venue.state market.new ≡ (made (V.Venue.state market.old) (Call.Enter form) (length list.old)).state }
@@ -56,10 +57,7 @@ fn enter<V: Venue>(market: &mut V, form: Form, list: &mut [Trade]) -> Line
 {
     let terms = form.terms();
     let class = form.class();
-    let answer = match market.enter(form, list) {
-        Ok(entered) => Ok(entered),
-        Err(back) => Err(back.refusal),
-    };
+    let answer = market.enter(form, list).map_err(|back| back.refusal);
     Line::Entry {
         terms,
         class,
@@ -96,8 +94,7 @@ fn play_turns<V: Venue>(
     requires trades { journal.old.trades.items ≡ [] }
     ensures { Plays (V.Venue.state market.old) (length list.old) turns.items (is_ok result) journal.new.lines.items journal.new.trades.items (V.Venue.state market.new) }
 {
-    let mut rest = turns.into_iter();
-    while let Some(turn) = rest.next() {
+    for turn in turns {
         let end = turn.lent.min(list.len());
         play_call(market, turn.call, &mut list[0..end], journal)?;
     }
@@ -145,7 +142,7 @@ pub fn play<
     turns: Vec<Turn>,
     list: &mut [Trade],
 ) -> Played<Market<FourBooks<DB, DA, KB, KA>>>
-    ensures { PlaysDay sheet.now (record { bids = DB.Book.room books.bids; asks = DA.Book.room books.asks; dark_bids = KB.Book.room books.dark_bids; dark_asks = KA.Book.room books.dark_asks }) (length list.old) turns.items (is_ok result.done) result.journal.lines.items result.journal.trades.items (state_with result.market (record { bids = DB.Book.orders result.market.books.bids; asks = DA.Book.orders result.market.books.asks; dark_bids = KB.Book.orders result.market.books.dark_bids; dark_asks = KA.Book.orders result.market.books.dark_asks }) (record { bids = DB.Book.room result.market.books.bids; asks = DA.Book.room result.market.books.asks; dark_bids = KB.Book.room result.market.books.dark_bids; dark_asks = KA.Book.room result.market.books.dark_asks })) }
+    ensures { PlaysDay sheet.now (⟦<FourBooks<DB, DA, KB, KA> as BookSet>⟧.rooms books) (length list.old) turns.items (is_ok result.done) result.journal.lines.items result.journal.trades.items (⟦<Market<FourBooks<DB, DA, KB, KA>> as Venue>⟧.state result.market) }
 {
     play_over(heap, sheet, books, turns, list)
 }

@@ -1,5 +1,6 @@
 ghost use Rattle.std.specs.Prelude.{◌≡◌, ◌-◌};
-ghost use Rattle.market.specs.Marketplaces.{Numbered, bit};
+ghost use Rattle.market.specs.Marketplaces.{Numbered};
+ghost use Rattle.market.specs.Quoting.{bit};
 
 use crate::marketplace::Marketplace;
 use rules::refusal::Refusal;
