@@ -3,6 +3,7 @@ use Rattle.std.proofs.Common.{◌≡◌, ℕ, zero, suc, ◌-◌, min, List, [],
 use Rattle.market.specs.Calls.{State}
 use Rattle.matching.specs.Trades.{written}
 use Rattle.matching.specs.declared.trade.Trade.{Trade}
+use Rattle.rules.specs.declared.form.Form.{Form}
 use Rattle.runs.specs.Days.{Made, made, count_in, wrote}
 use Rattle.runs.specs.declared.call.Call.{Call}
 use Rattle.runs.specs.declared.call.Line.{Line}
@@ -15,7 +16,7 @@ take_no_more (suc n) (suc k) [] is = refl
 take_no_more (suc n) zero (x ∷ xs) is = absurd (let no : ⊥ = omega arith in no)
 take_no_more (suc n) (suc k) (x ∷ xs) is = ap (λ ys. x ∷ ys) (take_no_more n k xs (omega arith))
 
-module _ (s : State) (call : Call) (list : List Trade) where
+module _ (s : State) (call : Call Form) (list : List Trade) where
   abbrev m : Made
   m = made s call (length list)
 

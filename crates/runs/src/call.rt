@@ -3,14 +3,14 @@ ghost use Rattle.std.specs.Prelude.{◌≡◌};
 ghost use Rattle.runs.specs.Days.{count_in};
 
 use market::answers::{Aside, Cancelled, Entered};
-use rules::form::Form;
 use rules::refusal::Refusal;
 use rules::sheet::Class;
 use rules::terms::{SideName, Terms};
 
-#[derive(Drop)]
-pub enum Call {
-    Enter(Form),
+// An entry has a form, or what is to become one.
+#[derive(Clone, Copy, Drop)]
+pub enum Call<F> {
+    Enter(F),
     Cancel(u32),
     Notice {
         marketplace: u32,

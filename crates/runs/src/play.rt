@@ -18,7 +18,7 @@ use rules::side::{Asks, Bids};
 use std::alloc::{AllocError, Global};
 
 // Makes the call on the market, and notes what was answered.
-pub fn make<V: Venue>(market: &mut V, call: Call, list: &mut [Trade]) -> Line
+pub fn make<V: Venue>(market: &mut V, call: Call<Form>, list: &mut [Trade]) -> Line
     ensures line { result ≡ (made (V.Venue.state market.old) call (length list.old)).line }
     ensures state { V.Venue.state market.new ≡ (made (V.Venue.state market.old) call (length list.old)).state }
     ensures list { list.new ≡ written (made (V.Venue.state market.old) call (length list.old)).trades list.old }
@@ -68,7 +68,7 @@ fn enter<V: Venue>(market: &mut V, form: Form, list: &mut [Trade]) -> Line
 // Makes a call and notes it. Where there is no memory to note it, the call is not made.
 fn play_call<V: Venue>(
     market: &mut V,
-    call: Call,
+    call: Call<Form>,
     lent: &mut [Trade],
     journal: &mut Journal,
 ) -> Result<(), AllocError>
