@@ -14,10 +14,8 @@ pub fn moved_and_back(form: Form, limit: u32) -> Result<Form, HandedBack>
     ensures { MovedAndBack form limit result }
 {
     let terms = form.terms();
-    match form.restate(limit, terms.shares) {
-        Ok(moved) => moved.restate(terms.limit, terms.shares),
-        Err(back) => Err(back),
-    }
+    form.restate(limit, terms.shares)?
+        .restate(terms.limit, terms.shares)
 }
 
 fn needs_better_price(form: &Form) -> bool

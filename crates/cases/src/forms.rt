@@ -16,17 +16,11 @@ const SALE: Terms = Terms {
 };
 
 fn sheet() -> Result<DaySheet, Fail> {
-    match DaySheet::new(4000, 1000) {
-        Ok(sheet) => Ok(sheet),
-        Err(_) => Err(Fail::new("refused")),
-    }
+    DaySheet::new(4000, 1000).map_err(|_| Fail::new("refused"))
 }
 
 fn form() -> Result<Form, Fail> {
-    match Form::write(&sheet()?, SALE) {
-        Ok(form) => Ok(form),
-        Err(_) => Err(Fail::new("refused")),
-    }
+    Form::write(&sheet()?, SALE).map_err(|_| Fail::new("refused"))
 }
 
 #[test]
