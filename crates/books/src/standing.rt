@@ -2,7 +2,9 @@
 ghost use Rattle.std.specs.Prelude.{◌≡◌};
 ghost use Rattle.books.specs.Lists.{sound};
 
-#[derive(Clone, Copy, PartialEq)]
+use rules::sheet::MOST_SHARES;
+
+#[derive(Clone, Copy, PartialEq, Eq)]
 pub struct Standing {
     pub number: u32,
     pub price: u32,
@@ -22,6 +24,6 @@ impl Standing {
     pub fn is_sound(&self) -> bool
         ensures { result ≡ sound self.now }
     {
-        self.number >= 1 && self.price >= 1 && self.shares >= 1 && self.shares <= 10_000_000
+        self.number >= 1 && self.price >= 1 && (1..=MOST_SHARES).contains(&self.shares)
     }
 }

@@ -1,5 +1,6 @@
 -- The loop that matches an entry: a trade takes an order out, or fills the entry.
 use Rattle.std.proofs.Common.{◌≡◌, ℕ, ◌+◌, ◌-◌, ◌<◌, ◌≤◌, min, Bool, true, false, cond, eqb, List, length, set, Some, None, Option, refl, ap, subst, arith, ne_eqb}
+use Rattle.std.proofs.lemmas.Option.{none-some, same_Some}
 use borrow.Author.Tests.{eqb-false}
 use Rattle.books.specs.Lists.{taken, AllSound, front_of}
 use Rattle.books.specs.declared.standing.Standing.{Standing}
@@ -10,7 +11,7 @@ use Rattle.matching.specs.declared.candidate.Around.{Around}
 use Rattle.matching.specs.declared.candidate.Candidate.{Candidate}
 use Rattle.matching.specs.declared.candidate.Entry.{Entry}
 use Rattle.matching.specs.declared.trade.Trade.{Trade}
-use Rattle.matching.proofs.Fronts.{none_some, some_same, candidate_front, shares_open, one_fewer, some_stand, some_shares, taken_shorter, taken_sound}
+use Rattle.matching.proofs.Fronts.{candidate_front, shares_open, one_fewer, some_stand, some_shares, taken_shorter, taken_sound}
 use Rattle.matching.proofs.Going.{steps_keep, steps_spend, Progress, progress_none, progress_more, progress_state, progress_count, progress_list}
 
 abbrev pub standing : Scene → ℕ
@@ -82,8 +83,8 @@ module _ (rule : Rule) (entry : Entry) (around : Around) where
       }
 
   step_shares : (scene : Scene) (o : Option Candidate) (s : Step Scene) → trade_step entry scene o ≡ Some s → s.after.shares ≤ scene.shares
-  step_shares scene None s is = absurd (none_some is)
-  step_shares scene (Some c) s is = subst (λ r. r.after.shares ≤ scene.shares) (some_same is) (omega arith)
+  step_shares scene None s is = absurd (none-some _ is)
+  step_shares scene (Some c) s is = subst (λ r. r.after.shares ≤ scene.shares) (same_Some _ _ is) (omega arith)
 
   -- matching leaves no more than was entered
   pub matched_shares : (scene : Scene) → (matched rule entry around scene).state.shares ≤ scene.shares
@@ -123,9 +124,9 @@ module _ (rule : Rule) (entry : Entry) (around : Around) where
       )
 
   step_falls : (scene : Scene) (o : Option Candidate) (s : Step Scene) → candidate rule entry around scene ≡ o → trade_step entry scene o ≡ Some s → Sounds scene → Sounds s.after × (chances s.after < chances scene)
-  step_falls scene None s is step sounds = absurd (none_some step)
+  step_falls scene None s is step sounds = absurd (none-some _ step)
   step_falls scene (Some c) s is step sounds =
-      subst (λ r. Sounds r.after × (chances r.after < chances scene)) (some_same step) (chances_fall scene c is sounds)
+      subst (λ r. Sounds r.after × (chances r.after < chances scene)) (same_Some _ _ step) (chances_fall scene c is sounds)
 
   -- a trade and an order left, and the rest if anything is open, for each order and one more
   pub matched_spends : (scene : Scene) → Sounds scene → length (matched rule entry around scene).trades + chances (matched rule entry around scene).state ≤ chances scene

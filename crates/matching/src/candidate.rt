@@ -29,6 +29,7 @@ pub struct Around {
     pub behind: Option<u32>,
 }
 
+// A flag, and no enum: an order stands in both cases, and the flag goes into the trade's record as it is.
 #[derive(Clone, Copy)]
 pub struct Candidate {
     pub order: Standing,

@@ -7,7 +7,7 @@ pub struct Trade {
     pub standing: u32,
     pub price: u32,
     pub shares: u32,
-    // whether the standing order is dark
+    // whether the standing order is dark: a flag, as the record is read by members
     pub dark: bool,
 }
 

@@ -56,6 +56,7 @@ fn main(rt: HostRuntime) -> io::Result<()> {
     let mut desk = Desk::new(&rt)?;
     let mut day = None;
     let mut next = desk.read()?;
+    // a count, since a loop over the input needs one to end
     for _ in 0..u64::MAX {
         let Some(typed) = next else {
             break;

@@ -20,7 +20,7 @@ pub struct BestPrices {
     pub quote: Quote,
 }
 
-// From which price on, in the side's order, a price is better.
+// From which price on, in the side's order, a price is better. Three cases, where an Option has two.
 #[derive(Clone, Copy, PartialEq, Eq)]
 pub enum Threshold {
     Any,

@@ -1,5 +1,6 @@
 -- One call: what it keeps of a state, and that its tape, its records and its answer tell the same.
 use Rattle.std.proofs.Common.{◌≡◌, ℕ, ◌+◌, ◌≤◌, Bool, true, false, not, leb, [], ◌∷◌, ◌++◌, length, is_some, Some, None, Ok, Err, Option, Result, sym, refl, ap, ◌∙◌, subst, arith}
+use Rattle.std.proofs.lemmas.Option.{none-some}
 use lib.Count.{ones}
 use Rattle.std.proofs.lemmas.Bool.{leb-true}
 use Rattle.books.proofs.Past.{each_map}
@@ -14,7 +15,6 @@ use Rattle.market.specs.declared.answers.Aside.{Aside}
 use Rattle.market.specs.declared.answers.Cancelled.{Cancelled}
 use Rattle.market.specs.declared.phase.Phase.{Phase}
 use Rattle.market.specs.declared.phase.Phase.TheVariants.{Open, Halted, Closed}
-use Rattle.matching.proofs.Fronts.{none_some}
 use Rattle.matching.specs.Looking.{Books, pair_in, standing_in, looked}
 use Rattle.matching.specs.Trades.{Steps}
 use Rattle.rules.specs.Refusals.{check}
@@ -77,7 +77,7 @@ refused_kept s n l sane silent = record {
 
 pub check_none : (b : Bool) (e : Refusal) (later : Option Refusal) → check b e later ≡ None → (b ≡ true) × (later ≡ None)
 check_none true e later h = (refl, h)
-check_none false e later h = absurd (none_some (sym h))
+check_none false e later h = absurd (none-some _ (sym h))
 
 two_passed : (a b : Bool) (x y : Refusal) (later : Option Refusal) → check a x (check b y later) ≡ None → later ≡ None
 two_passed a b x y later h = (check_none b y later (check_none a x (check b y later) h).1).1

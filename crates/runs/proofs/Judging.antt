@@ -1,12 +1,13 @@
 -- A trade at its moment: what matching and looking over see to before they make it.
 use Rattle.std.proofs.Common.{◌≡◌, ℕ, ◌/◌, ◌<◌, ◌≤◌, Bool, true, false, cond, ◌&&◌, List, [], ◌∷◌, Some, None, Option, sym, refl, ap, ◌∙◌, subst, ⊎_elim, arith}
+use Rattle.std.proofs.lemmas.Option.{none-some, same_Some}
 use Rattle.std.proofs.lemmas.Bool.{cases_Bool, both_ways, and_parts, and_from, or_cases, or_right, not-true, not_from_false, cond_both}
 use Rattle.books.proofs.Past.{each_map}
 use Rattle.books.proofs.Ranks.{not_both, before}
 use Rattle.books.specs.Histories.{Each, Pairs}
 use Rattle.books.specs.Lists.{find}
 use Rattle.books.specs.declared.standing.Standing.{Standing}
-use Rattle.matching.proofs.Fronts.{none_some, some_same, opens, candidate_front}
+use Rattle.matching.proofs.Fronts.{opens, candidate_front}
 use Rattle.matching.specs.Looking.{pair, trade_of}
 use Rattle.matching.specs.Matching.{Scene, at_or_ahead, spared, front_price, front_if, best_against, dark_passes, displayed_candidate, dark_candidate, displayed_one, dark_one, chosen, candidate, trade_with}
 use Rattle.matching.specs.declared.candidate.Around.{Around}
@@ -46,13 +47,13 @@ module _ (rule : Rule) (law : Lawful rule) (best_is : (front behind : Option ℕ
   -- and so before our own front
   module _ (x : ℕ) (p : ℕ) where
     ahead_of_front : (a : Option ℕ) (b : ℕ) → first_of rule (Some x) a ≡ Some b → rule.ahead p b ≡ true → rule.ahead p x ≡ true
-    ahead_of_front None b is h = subst (λ y. rule.ahead p y ≡ true) (sym (some_same is)) h
+    ahead_of_front None b is h = subst (λ y. rule.ahead p y ≡ true) (sym (same_Some _ _ is)) h
     ahead_of_front (Some a) b is h =
         let P : Bool → Type 0 = λ c. rule.ahead a x ≡ c → cond c a x ≡ b → rule.ahead p x ≡ true in
         elim (rule.ahead a x) as P [
           | true ↦ λ first e. law.carries p a x (subst (λ y. rule.ahead p y ≡ true) (sym e) h) first
           | false ↦ λ _ e. subst (λ y. rule.ahead p y ≡ true) (sym e) h
-        ] refl (some_same is)
+        ] refl (same_Some _ _ is)
 
   first_some : (x : ℕ) (a : Option ℕ) → (b : ℕ) × (first_of rule (Some x) a ≡ Some b)
   first_some x None = (x, refl)
@@ -60,15 +61,15 @@ module _ (rule : Rule) (law : Lawful rule) (best_is : (front behind : Option ℕ
 
   -- a pair: the active order is the front displayed one of the other side
   pub pair_judged : (increment : ℕ) (away : Quote) (displayed dark own : List Standing) (t : Trade) → 2 ≤ increment → Pairs (StandsBefore rule) displayed → pair rule increment (best_of (placed rule.name (front_price displayed) (front_price own)) away) own dark ≡ Some t → Judged rule increment away false displayed dark own t
-  pair_judged increment away displayed dark [] t two sorted is = absurd (none_some is)
-  pair_judged increment away displayed [] (d ∷ ds) t two sorted is = absurd (none_some is)
+  pair_judged increment away displayed dark [] t two sorted is = absurd (none-some _ is)
+  pair_judged increment away displayed [] (d ∷ ds) t two sorted is = absurd (none-some _ is)
   pair_judged increment away displayed (k ∷ ks) (d ∷ ds) t two sorted is =
       let best : Quote = best_of (placed rule.name (front_price displayed) (Some d.price)) away in
       let P : Bool → Type 0 = λ b. (at_or_ahead rule k.price d.price && better rule increment best k.price) ≡ b → cond b (Some (trade_of d k)) None ≡ Some t → Judged rule increment away false displayed (k ∷ ks) (d ∷ ds) t in
       elim (at_or_ahead rule k.price d.price && better rule increment best k.price) as P [
         | true ↦ λ so e.
             let is_better : better rule increment best k.price ≡ true = (and_parts (at_or_ahead rule k.price d.price) (better rule increment best k.price) so).1 in
-            subst (Judged rule increment away false displayed (k ∷ ks) (d ∷ ds)) (some_same e)
+            subst (Judged rule increment away false displayed (k ∷ ks) (d ∷ ds)) (same_Some _ _ e)
             record {
               order = k;
               stands = find_front k ks;
@@ -77,7 +78,7 @@ module _ (rule : Rule) (law : Lawful rule) (best_is : (front behind : Option ℕ
               before_displayed = λ _. in_front displayed sorted is_better;
               better_if_small = λ _ _. is_better;
             }
-        | false ↦ λ _ e. absurd (none_some e)
+        | false ↦ λ _ e. absurd (none-some _ e)
       ] refl is
     where
       in_front : (displayed : List Standing) → Pairs (StandsBefore rule) displayed → better rule increment (best_of (placed rule.name (front_price displayed) (Some d.price)) away) k.price ≡ true → Each (λ o. rule.ahead k.price o.price ≡ true) displayed
@@ -90,26 +91,26 @@ module _ (rule : Rule) (law : Lawful rule) (best_is : (front behind : Option ℕ
 
   -- the dark candidate is chosen: it passes, and it comes before the displayed one
   chosen_dark : (d k : Option Standing) (c : Candidate) → chosen rule d k ≡ Some c → c.dark ≡ true → (k ≡ Some c.order) × ((x : Standing) → d ≡ Some x → rule.ahead c.order.price x.price ≡ true)
-  chosen_dark None None c is dark = absurd (none_some is)
-  chosen_dark (Some d) None c is dark = absurd (both_ways c.dark (ap (λ x. x.dark) (sym (some_same is))) dark)
-  chosen_dark None (Some k) c is dark = (ap (λ x. Some x.order) (some_same is), λ x e. absurd (none_some e))
+  chosen_dark None None c is dark = absurd (none-some _ is)
+  chosen_dark (Some d) None c is dark = absurd (both_ways c.dark (ap (λ x. x.dark) (sym (same_Some _ _ is))) dark)
+  chosen_dark None (Some k) c is dark = (ap (λ x. Some x.order) (same_Some _ _ is), λ x e. absurd (none-some _ e))
   chosen_dark (Some d) (Some k) c is dark =
       let P : Bool → Type 0 = λ b. rule.ahead k.price d.price ≡ b → cond b (dark_one k) (displayed_one d) ≡ c → (Some k ≡ Some c.order) × ((x : Standing) → Some d ≡ Some x → rule.ahead c.order.price x.price ≡ true) in
       elim (rule.ahead k.price d.price) as P [
         | true ↦ λ first e. (
           ap (λ x. Some x.order) e,
-          λ x h. subst (λ y. rule.ahead c.order.price y.price ≡ true) (some_same h) (subst (λ z. rule.ahead z.order.price d.price ≡ true) e first),
+          λ x h. subst (λ y. rule.ahead c.order.price y.price ≡ true) (same_Some _ _ h) (subst (λ z. rule.ahead z.order.price d.price ≡ true) e first),
         )
         | false ↦ λ _ e. absurd (both_ways c.dark (ap (λ x. x.dark) (sym e)) dark)
-      ] refl (some_same is)
+      ] refl (same_Some _ _ is)
 
   front_passes : (passes : ℕ → Bool) (os : List Standing) (o : Standing) → front_if passes os ≡ Some o → passes o.price ≡ true
-  front_passes passes [] o is = absurd (none_some is)
+  front_passes passes [] o is = absurd (none-some _ is)
   front_passes passes (x ∷ xs) o is =
       let P : Bool → Type 0 = λ b. passes x.price ≡ b → cond b (Some x) None ≡ Some o → passes o.price ≡ true in
       elim (passes x.price) as P [
-        | true ↦ λ so e. subst (λ y. passes y.price ≡ true) (some_same e) so
-        | false ↦ λ _ e. absurd (none_some e)
+        | true ↦ λ so e. subst (λ y. passes y.price ≡ true) (same_Some _ _ e) so
+        | false ↦ λ _ e. absurd (none-some _ e)
       ] refl is
 
   module _ (entry : Entry) (around : Around) (two : 2 ≤ around.away.increment) where
