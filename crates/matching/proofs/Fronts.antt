@@ -8,14 +8,15 @@ use Rattle.books.specs.declared.standing.Standing.{Standing}
 use Rattle.rules.specs.Refusals.{check}
 use Rattle.rules.specs.Sides.{Rule}
 use Rattle.rules.specs.declared.refusal.Refusal.TheVariants.{BadTake}
-use Rattle.matching.specs.Matching.{front_if, front_price, best_against, displayed_passes, dark_passes, displayed_candidate, dark_candidate, chosen, candidate, Scene, displayed_one, dark_one}
+use Rattle.matching.specs.Matching.{front_if, front_price, best_against, displayed_passes, dark_passes, displayed_candidate, dark_candidate, chosen, candidate, Scene, order_in, is_dark}
 use Rattle.matching.specs.declared.candidate.Around.{Around}
 use Rattle.matching.specs.declared.candidate.Candidate.{Candidate}
+use Rattle.matching.specs.declared.candidate.Candidate.TheVariants.{Displayed, Dark}
 use Rattle.matching.specs.declared.candidate.Entry.{Entry}
 
 -- the book that a candidate names has it in front
 abbrev pub InFront : Candidate → (displayed dark : List Standing) → Type 0
-InFront c displayed dark = front_of (cond c.dark dark displayed) ≡ Some c.order
+InFront c displayed dark = front_of (cond (is_dark c) dark displayed) ≡ Some (order_in c)
 
 front_if_front : (passes : ℕ → Bool) (orders : List Standing) (o : Standing) → front_if passes orders ≡ Some o → front_of orders ≡ Some o
 front_if_front passes [] o h = h
@@ -28,7 +29,7 @@ chosen_front rule None None displayed dark c hd hk e = absurd (none-some _ e)
 chosen_front rule (Some d) None displayed dark c hd hk e = subst (λ x. InFront x displayed dark) (same_Some _ _ e) (hd d refl)
 chosen_front rule None (Some k) displayed dark c hd hk e = subst (λ x. InFront x displayed dark) (same_Some _ _ e) (hk k refl)
 chosen_front rule (Some d) (Some k) displayed dark c hd hk e =
-    let P : Bool → Type 0 = λ b. InFront (cond b (dark_one k) (displayed_one d)) displayed dark in
+    let P : Bool → Type 0 = λ b. InFront (cond b (Dark k) (Displayed d)) displayed dark in
     subst (λ x. InFront x displayed dark) (same_Some _ _ e)
     (elim (rule.ahead k.price d.price) as P [ true ↦ hk k refl | false ↦ hd d refl ])
 

@@ -29,11 +29,11 @@ pub struct Around {
     pub behind: Option<u32>,
 }
 
-// A flag, and no enum: an order stands in both cases, and the flag goes into the trade's record as it is.
+// The order that an entry trades with next, by the book in which it stands.
 #[derive(Clone, Copy)]
-pub struct Candidate {
-    pub order: Standing,
-    pub dark: bool,
+pub enum Candidate {
+    Displayed(Standing),
+    Dark(Standing),
 }
 
 // Whether of two prices the second does not come first.
@@ -98,13 +98,11 @@ fn dark_candidate<K: Book>(
 fn chosen<S: Side>(displayed: Option<Standing>, dark: Option<Standing>) -> Option<Candidate>
     ensures { result ≡ chosen S.Side.rule displayed dark }
 {
-    let (order, dark) = match (displayed, dark) {
-        (Some(d), Some(k)) if S::comes_first(k.price, d.price) => (k, true),
-        (Some(d), _) => (d, false),
-        (None, Some(k)) => (k, true),
-        (None, None) => return None,
-    };
-    Some(Candidate { order, dark })
+    match (displayed, dark) {
+        (Some(d), Some(k)) if S::comes_first(k.price, d.price) => Some(Candidate::Dark(k)),
+        (Some(d), _) => Some(Candidate::Displayed(d)),
+        (None, k) => k.map(Candidate::Dark),
+    }
 }
 
 // None where nothing of the entry is open.

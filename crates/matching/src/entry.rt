@@ -11,12 +11,16 @@ use books::book::Book;
 fn trade_with(active: &Entry, candidate: Candidate, shares: u32) -> Trade
     ensures { result ≡ trade_with active.now candidate shares }
 {
+    let (order, dark) = match candidate {
+        Candidate::Displayed(order) => (order, false),
+        Candidate::Dark(order) => (order, true),
+    };
     Trade {
         active: active.number,
-        standing: candidate.order.number,
-        price: candidate.order.price,
-        shares: candidate.order.shares.min(shares),
-        dark: candidate.dark,
+        standing: order.number,
+        price: order.price,
+        shares: order.shares.min(shares),
+        dark,
     }
 }
 

@@ -9,9 +9,10 @@ use Rattle.books.specs.Lists.{find}
 use Rattle.books.specs.declared.standing.Standing.{Standing}
 use Rattle.matching.proofs.Fronts.{opens, candidate_front}
 use Rattle.matching.specs.Looking.{pair, trade_of}
-use Rattle.matching.specs.Matching.{Scene, at_or_ahead, spared, front_price, front_if, best_against, dark_passes, displayed_candidate, dark_candidate, displayed_one, dark_one, chosen, candidate, trade_with}
+use Rattle.matching.specs.Matching.{Scene, at_or_ahead, spared, front_price, front_if, best_against, dark_passes, displayed_candidate, dark_candidate, chosen, candidate, trade_with, order_in, is_dark}
 use Rattle.matching.specs.declared.candidate.Around.{Around}
 use Rattle.matching.specs.declared.candidate.Candidate.{Candidate}
+use Rattle.matching.specs.declared.candidate.Candidate.TheVariants.{Displayed, Dark}
 use Rattle.matching.specs.declared.candidate.Entry.{Entry}
 use Rattle.matching.specs.declared.trade.Trade.{Trade}
 use Rattle.rules.specs.Better.{on, placed, first_of, best_of, one_apart, improvement_at, better_than, better}
@@ -90,18 +91,18 @@ module _ (rule : Rule) (law : Lawful rule) (best_is : (front behind : Option ℕ
           before_all k.price x xs (ahead_of_front x.price k.price (on rule.name away) b.0 b.1 (better_ahead increment best b.0 k.price two at is_better)) sorted.0
 
   -- the dark candidate is chosen: it passes, and it comes before the displayed one
-  chosen_dark : (d k : Option Standing) (c : Candidate) → chosen rule d k ≡ Some c → c.dark ≡ true → (k ≡ Some c.order) × ((x : Standing) → d ≡ Some x → rule.ahead c.order.price x.price ≡ true)
+  chosen_dark : (d k : Option Standing) (c : Candidate) → chosen rule d k ≡ Some c → (is_dark c) ≡ true → (k ≡ Some (order_in c)) × ((x : Standing) → d ≡ Some x → rule.ahead (order_in c).price x.price ≡ true)
   chosen_dark None None c is dark = absurd (none-some _ is)
-  chosen_dark (Some d) None c is dark = absurd (both_ways c.dark (ap (λ x. x.dark) (sym (same_Some _ _ is))) dark)
-  chosen_dark None (Some k) c is dark = (ap (λ x. Some x.order) (same_Some _ _ is), λ x e. absurd (none-some _ e))
+  chosen_dark (Some d) None c is dark = absurd (both_ways (is_dark c) (ap (λ x. is_dark x) (sym (same_Some _ _ is))) dark)
+  chosen_dark None (Some k) c is dark = (ap (λ x. Some (order_in x)) (same_Some _ _ is), λ x e. absurd (none-some _ e))
   chosen_dark (Some d) (Some k) c is dark =
-      let P : Bool → Type 0 = λ b. rule.ahead k.price d.price ≡ b → cond b (dark_one k) (displayed_one d) ≡ c → (Some k ≡ Some c.order) × ((x : Standing) → Some d ≡ Some x → rule.ahead c.order.price x.price ≡ true) in
+      let P : Bool → Type 0 = λ b. rule.ahead k.price d.price ≡ b → cond b (Dark k) (Displayed d) ≡ c → (Some k ≡ Some (order_in c)) × ((x : Standing) → Some d ≡ Some x → rule.ahead (order_in c).price x.price ≡ true) in
       elim (rule.ahead k.price d.price) as P [
         | true ↦ λ first e. (
-          ap (λ x. Some x.order) e,
-          λ x h. subst (λ y. rule.ahead c.order.price y.price ≡ true) (same_Some _ _ h) (subst (λ z. rule.ahead z.order.price d.price ≡ true) e first),
+          ap (λ x. Some (order_in x)) e,
+          λ x h. subst (λ y. rule.ahead (order_in c).price y.price ≡ true) (same_Some _ _ h) (subst (λ z. rule.ahead (order_in z).price d.price ≡ true) e first),
         )
-        | false ↦ λ _ e. absurd (both_ways c.dark (ap (λ x. x.dark) (sym e)) dark)
+        | false ↦ λ _ e. absurd (both_ways (is_dark c) (ap (λ x. is_dark x) (sym e)) dark)
       ] refl (same_Some _ _ is)
 
   front_passes : (passes : ℕ → Bool) (os : List Standing) (o : Standing) → front_if passes os ≡ Some o → passes o.price ≡ true
@@ -174,15 +175,15 @@ module _ (rule : Rule) (law : Lawful rule) (best_is : (front behind : Option ℕ
   match_judged entry increment away own scene c two sorted is =
       let around : Around = record { away = record { increment = increment; quote = away }; behind = front_price own } in
       let best : Quote = best_against rule around (front_price scene.displayed) in
-      let choice : c.dark ≡ true → (dark_candidate rule entry around (front_price scene.displayed) scene.dark ≡ Some c.order) × ((x : Standing) → displayed_candidate rule entry around scene.displayed ≡ Some x → rule.ahead c.order.price x.price ≡ true) =
+      let choice : (is_dark c) ≡ true → (dark_candidate rule entry around (front_price scene.displayed) scene.dark ≡ Some (order_in c)) × ((x : Standing) → displayed_candidate rule entry around scene.displayed ≡ Some x → rule.ahead (order_in c).price x.price ≡ true) =
       λ dark. chosen_dark (displayed_candidate rule entry around scene.displayed) (dark_candidate rule entry around (front_price scene.displayed) scene.dark) c (opens rule entry around scene c is).1 dark in
-      let passes : c.dark ≡ true → dark_passes rule entry around best c.order.price ≡ true =
-      λ dark. front_passes (dark_passes rule entry around best) scene.dark c.order (choice dark).0 in
+      let passes : (is_dark c) ≡ true → dark_passes rule entry around best (order_in c).price ≡ true =
+      λ dark. front_passes (dark_passes rule entry around best) scene.dark (order_in c) (choice dark).0 in
       record {
-        order = c.order;
-        stands = at_front c.order (λ l. find c.order.number l ≡ Some c.order) (λ l. find_front c.order l) (cond c.dark scene.dark scene.displayed) (candidate_front rule entry around scene c is);
+        order = (order_in c);
+        stands = at_front (order_in c) (λ l. find (order_in c).number l ≡ Some (order_in c)) (λ l. find_front (order_in c) l) (cond (is_dark c) scene.dark scene.displayed) (candidate_front rule entry around scene c is);
         price = refl;
         enough = omega arith;
-        before_displayed = λ dark. in_front entry around two c.order.price scene.displayed sorted (passes dark) (choice dark).1;
-        better_if_small = λ dark. small_better entry around two best c.order.price (passes dark);
+        before_displayed = λ dark. in_front entry around two (order_in c).price scene.displayed sorted (passes dark) (choice dark).1;
+        better_if_small = λ dark. small_better entry around two best (order_in c).price (passes dark);
       }
