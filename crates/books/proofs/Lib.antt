@@ -6,3 +6,4 @@ pub mod Arranged
 pub mod Spots
 pub mod Front
 pub mod Calls
+pub mod Parts
