@@ -14,7 +14,8 @@ pub(crate) struct Chains<'a> {
     pub(crate) count: usize,
 }
 
-// A record in a chain, and the record before it: 0 is the anchor before the first, and no record after the last.
+// A record in a chain, and the record before it: 0 is the anchor before the first, and no record after the last,
+// since zero ends a chain.
 #[derive(Clone, Copy)]
 pub(crate) struct Spot {
     pub(crate) before: u16,

@@ -12,6 +12,7 @@ pub struct Record {
 }
 
 impl Record {
+    // What fills the records before they are lent. No `Default` beside it: a blank record has one name.
     pub const BLANK: Record = Record {
         order: Standing::BLANK,
         next: 0,

@@ -19,6 +19,7 @@ pub enum Event {
 }
 
 impl Phase {
+    // Phase and event matched together: a form that the rules of the market name.
     pub fn after(self, event: Event) -> Result<Phase, Refusal>
         ensures { result ≡ moved self event }
     {

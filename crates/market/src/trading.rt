@@ -204,6 +204,7 @@ impl<Q: BookSet> Venue for Market<Q> {
         Ok(self.look(list))
     }
 
+    // one line, as `halt`: two functions of the interface, which name another event
     fn close(&mut self) -> Result<(), Refusal> {
         self.phase = self.phase.after(Event::Close)?;
         Ok(())

@@ -20,6 +20,7 @@ use rules::terms::SideName;
 pub trait BookSet {
     ghost lists: { Self → Books };
 
+    // Every function that changes a set says that these stay: a fact of a change, which no invariant can have.
     ghost rooms: { Self → Rooms };
 
     fn empty(&mut self)

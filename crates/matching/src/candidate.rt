@@ -20,7 +20,8 @@ pub struct Entry {
     pub displayed: bool,
 }
 
-// The prices that stay while one entry is matched.
+// The prices that stay while one entry is matched. Not a part of the entry: a trade and a booking take the entry alone,
+// and the best prices these alone.
 #[derive(Clone, Copy)]
 pub struct Around {
     // those of other marketplaces

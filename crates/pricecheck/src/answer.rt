@@ -30,7 +30,7 @@ pub enum Answer {
     },
 }
 
-// Why a line has no answer.
+// Why a line has no answer. Of this program alone: the other one has a market to miss.
 #[derive(Clone, Copy)]
 pub enum Denial {
     Malformed,

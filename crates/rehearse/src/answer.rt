@@ -33,7 +33,7 @@ pub enum Answer {
     Open(Option<u32>),
 }
 
-// Why a line has no answer.
+// Why a line has no answer. Of this program alone: the other one has no market to miss.
 #[derive(Clone, Copy)]
 pub enum Denial {
     Malformed,
@@ -145,6 +145,7 @@ impl fmt::Display for Answer {
     }
 }
 
+// A trade as a rehearsal prints it: the text is this program's, so it is no `Display` of every trade.
 #[derive(Drop)]
 pub struct TradeLine(pub Trade);
 

@@ -15,7 +15,7 @@ pub struct Desk {
     output: BufWriter<Stdout>,
     line: Vec<u8>,
     list: Vec<Trade>,
-    // how many records of the list are lent to a call
+    // how many records of the list are lent to a call: a line may lend fewer, and another one all of them again
     lent: usize,
 }
 
@@ -45,6 +45,7 @@ impl Desk {
     // The next line that has an answer; none at the end of the input. Before it waits for input, what was answered is
     // shown: whoever types sees each answer, and a long file is still written in large pieces.
     pub fn read(&mut self) -> io::Result<Option<Typed>> {
+        // a count, since a loop over the input needs one to end
         for _ in 0..u64::MAX {
             if self.input.buffer().is_empty() {
                 self.output.flush()?;

@@ -59,7 +59,8 @@ fn answer_question<V: Venue>(market: &V, question: Question) -> Answer {
 }
 
 // Plays the market until a line ends it, and answers that line: another day, other books, or none at the end of the
-// input. What is answered to the line that made the market comes first.
+// input. What is answered to the line that made the market comes first. Desk and sheets are two, since the desk outlasts
+// the sheets.
 pub fn play<V: Venue>(
     desk: &mut Desk,
     sheets: &mut Sheets,
@@ -67,6 +68,7 @@ pub fn play<V: Venue>(
     opened: Answer,
 ) -> io::Result<Option<Typed>> {
     let mut answered = Ok(opened);
+    // a count, since a loop over the input needs one to end
     for _ in 0..u64::MAX {
         desk.say(answered)?;
         let Some(typed) = desk.read()? else {

@@ -16,6 +16,7 @@ fn is_multiple(step: u32, most: u32, n: u32) -> bool
 }
 
 impl DaySheet {
+    // Two numbers, and no struct of them: a sheet is what they become.
     pub fn new(closing: u32, last: u32) -> Result<DaySheet, Refusal>
         ensures { Made closing last result }
     {
