@@ -4,7 +4,7 @@ ghost use Rattle.market.specs.Phases.{moved};
 
 use rules::refusal::Refusal;
 
-#[derive(Clone, Copy, PartialEq)]
+#[derive(Clone, Copy, PartialEq, Eq)]
 pub enum Phase {
     Open,
     Halted,

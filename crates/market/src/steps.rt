@@ -1,4 +1,4 @@
-// The steps of an entry, over plain values and any set of books.
+// What the calls are made of, over plain values and any set of books.
 ghost use Rattle.std.specs.Prelude.{◌≡◌};
 ghost use Rattle.market.specs.Calls.{entry_of, valid_quote, is_displayed};
 ghost use Rattle.market.specs.Handling.{Handles};

@@ -39,7 +39,7 @@ impl<Q: BookSet> Market<Q> {
         }
     }
 
-    // What is checked before all else by every call but the questions.
+    // What is checked before all else: a closed market takes no call. Halt, resumption and close have it from the phase.
     fn check_phase(&self) -> Result<(), Refusal>
         ensures { result ≡ passed (first_checked (⟦<Self as Venue>⟧.state self.now) None) }
     {
@@ -153,6 +153,7 @@ impl<Q: BookSet> Venue for Market<Q> {
     }
 
     fn enter(&mut self, form: Form, list: &mut [Trade]) -> Result<Entered, HandedBack> {
+        // no `?`, since a refused form goes back
         if let Err(refusal) = self.check_entry(&form, list) {
             return Err(HandedBack { refusal, form });
         }

@@ -2,7 +2,6 @@
 ghost use Rattle.std.specs.Prelude.{◌≡◌};
 ghost use Rattle.matching.specs.Matching.{at_or_ahead, spared, front_price, best_against, displayed_candidate, dark_candidate, chosen, candidate};
 
-use crate::side_books::SideBooks;
 use books::book::Book;
 use books::standing::Standing;
 use rules::price::{BestPrices, Quote};
@@ -110,17 +109,18 @@ fn chosen<S: Side>(displayed: Option<Standing>, dark: Option<Standing>) -> Optio
 pub fn next_candidate<D: Book, K: Book<Side = D::Side>>(
     active: &Entry,
     around: &Around,
-    met: &SideBooks<D, K>,
+    displayed: &D,
+    dark: &K,
     shares: u32,
 ) -> Option<Candidate>
-    ensures { result ≡ candidate D.Side.Side.rule active.now around.now (record { displayed = D.Book.orders met.now.displayed; dark = K.Book.orders met.now.dark; shares = shares }) }
+    ensures { result ≡ candidate D.Side.Side.rule active.now around.now (record { displayed = D.Book.orders displayed.now; dark = K.Book.orders dark.now; shares = shares }) }
 {
     if shares == 0 {
         return None;
     }
-    let front = front_price(&met.displayed);
+    let front = front_price(displayed);
     chosen::<D::Side>(
-        displayed_candidate(active, around, &met.displayed),
-        dark_candidate(active, around, front, &met.dark),
+        displayed_candidate(active, around, displayed),
+        dark_candidate(active, around, front, dark),
     )
 }

@@ -36,6 +36,7 @@ fn make_trade<D: Book, K: Book>(
     ensures places { (D.Book.room met.new.displayed ≡ D.Book.room met.old.displayed) × (K.Book.room met.new.dark ≡ K.Book.room met.old.dark) }
     ensures list { list.new ≡ slice_set list.old at trade }
 {
+    // a take that is refused leaves its book as it was, as the definition has it
     if trade.dark {
         let _ = met.dark.take(trade.shares);
     } else {
@@ -64,7 +65,7 @@ pub fn match_entry<D: Book, K: Book<Side = D::Side>>(
     let mut shares = active.shares;
     // counted by hand: the count is a part of the answer, and names the record
     let mut trades = 0;
-    while let Some(candidate) = next_candidate(active, around, met, shares) {
+    while let Some(candidate) = next_candidate(active, around, &met.displayed, &met.dark, shares) {
         let trade = trade_with(active, candidate, shares);
         make_trade(trade, met, list, trades);
         shares -= trade.shares;

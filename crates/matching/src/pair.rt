@@ -36,17 +36,14 @@ pub(crate) fn front_pair<S: Side, D: Book, K: Book<Side = S>>(
 {
     let d = displayed.front()?;
     let k = dark.front()?;
-    if at_or_ahead::<S>(k.price, d.price) && best.is_better::<S>(k.price) {
-        Some(Trade {
-            active: d.number,
-            standing: k.number,
-            price: k.price,
-            shares: d.shares.min(k.shares),
-            dark: true,
-        })
-    } else {
-        None
-    }
+    let trades = at_or_ahead::<S>(k.price, d.price) && best.is_better::<S>(k.price);
+    trades.then(|| Trade {
+        active: d.number,
+        standing: k.number,
+        price: k.price,
+        shares: d.shares.min(k.shares),
+        dark: true,
+    })
 }
 
 // Takes the shares of a pair's trade from the front of both books.
@@ -56,6 +53,7 @@ pub(crate) fn take_paired<D: Book, K: Book>(shares: u32, displayed: &mut D, dark
     ensures displayed_places { D.Book.room displayed.new ≡ D.Book.room displayed.old }
     ensures dark_places { K.Book.room dark.new ≡ K.Book.room dark.old }
 {
+    // a take that is refused leaves its book as it was, as the definition has it
     let _ = displayed.take(shares);
     let _ = dark.take(shares);
 }

@@ -39,6 +39,7 @@ fn book_rest<O: Book, H: Book<Side = O::Side>>(
         price: active.bound,
         shares,
     };
+    // an add that is refused leaves its book as it was, as the definition has it
     if active.displayed {
         let _ = own.displayed.add(order);
     } else {

@@ -18,7 +18,8 @@ pub enum Way {
     OwnFront = 5,
 }
 
-// What decides the way: what is left of the order, and the prices on the other side.
+// What decides the way: what is left of the order, and the prices on the other side. Not the entry itself: its number,
+// its size and its shares decide nothing here.
 #[derive(Clone, Copy)]
 pub struct Rest {
     pub shares: u32,

@@ -48,9 +48,11 @@ impl From<Refusal> for Denial {
     }
 }
 
-impl Answer {
-    // What is answered to a call, of what is noted of it.
-    pub fn to_call(line: Line) -> Result<Answer, Refusal> {
+// What is answered to a call, of what is noted of it.
+impl TryFrom<Line> for Answer {
+    type Error = Refusal;
+
+    fn try_from(line: Line) -> Result<Answer, Refusal> {
         match line {
             Line::Entry { answer, .. } => answer.map(Answer::Entered),
             Line::Cancel { answer, .. } => answer.map(Answer::Cancelled),
@@ -59,17 +61,6 @@ impl Answer {
             Line::Halt(answer) => answer.map(|()| Answer::Halted),
             Line::Resume(answer) => answer.map(Answer::Resumed),
             Line::Close(answer) => answer.map(|()| Answer::Closed),
-        }
-    }
-
-    // How many trades follow the answer.
-    pub fn trades(&self) -> usize {
-        match *self {
-            Answer::Entered(entered) => entered.trades,
-            Answer::Cancelled(cancelled) => cancelled.trades,
-            Answer::Aside(aside) => aside.trades,
-            Answer::Quoted(trades) | Answer::Resumed(trades) => trades,
-            _ => 0,
         }
     }
 }

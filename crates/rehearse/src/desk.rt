@@ -62,15 +62,16 @@ impl Desk {
         Ok(None)
     }
 
-    // Prints the answer, and the trades that it counts.
     pub fn say(&mut self, answered: Result<Answer, Denial>) -> io::Result<()> {
-        let answer = match answered {
-            Ok(answer) => answer,
-            Err(denial) => return writeln!(self.output, "{denial}"),
-        };
-        writeln!(self.output, "{answer}")?;
-        let count = answer.trades().min(self.list.len());
-        for trade in &self.list[0..count] {
+        match answered {
+            Ok(answer) => writeln!(self.output, "{answer}"),
+            Err(denial) => writeln!(self.output, "{denial}"),
+        }
+    }
+
+    // Prints so many trades from the front of the list.
+    pub fn show(&mut self, trades: usize) -> io::Result<()> {
+        for trade in self.list.iter().take(trades) {
             let line = TradeLine(*trade);
             writeln!(self.output, "{line}")?;
         }

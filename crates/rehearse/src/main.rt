@@ -44,10 +44,7 @@ fn go_on(desk: &mut Desk, day: &mut Option<Sheets>, typed: Typed) -> io::Result<
     if let (Ok(Command::Books(plan)), Some(sheets)) = (typed, day.as_mut()) {
         return opening::open(desk, sheets, plan);
     }
-    let answered = match typed {
-        Ok(command) => without_market(desk, day, command),
-        Err(denial) => Err(denial),
-    };
+    let answered = typed.and_then(|command| without_market(desk, day, command));
     desk.say(answered)?;
     desk.read()
 }

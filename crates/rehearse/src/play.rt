@@ -34,14 +34,19 @@ fn written(sheet: &DaySheet, call: Call<Terms>) -> Result<Call<Form>, Refusal> {
     })
 }
 
-fn answer_call<V: Venue>(
-    market: &mut V,
+// Makes the call, prints what is answered, and the trades that the answer counts.
+fn call<V: Venue>(
+    desk: &mut Desk,
     sheet: &DaySheet,
-    list: &mut [Trade],
-    call: Call<Terms>,
-) -> Result<Answer, Refusal> {
-    let call = written(sheet, call)?;
-    Answer::to_call(make(market, call, list))
+    market: &mut V,
+    asked: Call<Terms>,
+) -> io::Result<()> {
+    let made = match written(sheet, asked) {
+        Ok(call) => make(market, call, desk.list()),
+        Err(refusal) => return desk.say(Err(Denial::Refused(refusal))),
+    };
+    desk.say(Answer::try_from(made).map_err(Denial::from))?;
+    desk.show(made.trades())
 }
 
 fn replace_sheet(sheets: &mut Sheets, closing: u32, last: u32) -> Result<Answer, Denial> {
@@ -67,23 +72,27 @@ pub fn play<V: Venue>(
     market: &mut V,
     opened: Answer,
 ) -> io::Result<Option<Typed>> {
-    let mut answered = Ok(opened);
+    desk.say(Ok(opened))?;
     // a count, since a loop over the input needs one to end
     for _ in 0..u64::MAX {
-        desk.say(answered)?;
         let Some(typed) = desk.read()? else {
             break;
         };
-        answered = match typed {
-            Err(denial) => Err(denial),
+        match typed {
             Ok(Command::Day { .. } | Command::Books(_)) => return Ok(Some(typed)),
-            Ok(Command::Trades(records)) => Ok(desk.lend_only(records)),
-            Ok(Command::Sheet { closing, last }) => replace_sheet(sheets, closing, last),
-            Ok(Command::Call(call)) => {
-                answer_call(market, &sheets.forms, desk.list(), call).map_err(Denial::from)
+            Ok(Command::Call(asked)) => call(desk, &sheets.forms, market, asked)?,
+            Ok(Command::Trades(records)) => {
+                let answer = desk.lend_only(records);
+                desk.say(Ok(answer))?;
             }
-            Ok(Command::Question(question)) => Ok(answer_question(market, question)),
-        };
+            Ok(Command::Sheet { closing, last }) => {
+                desk.say(replace_sheet(sheets, closing, last))?;
+            }
+            Ok(Command::Question(question)) => {
+                desk.say(Ok(answer_question(market, question)))?;
+            }
+            Err(denial) => desk.say(Err(denial))?,
+        }
     }
     Ok(None)
 }

@@ -2,6 +2,8 @@
 use Rattle.std.specs.Prelude.{◌≡◌, ℕ, min, Bool, true, List, [], ◌∷◌, length}
 use Rattle.market.specs.Calls.{State, fresh}
 use Rattle.matching.specs.Sets.{Rooms}
+use Rattle.market.specs.declared.trading.Market.{Market}
+use Rattle.matching.specs.Looking.{Books}
 use Rattle.matching.specs.declared.trade.Trade.{Trade}
 use Rattle.rules.specs.declared.sheet.DaySheet.{DaySheet}
 use Rattle.runs.specs.Days.{Asked, day}
@@ -25,6 +27,20 @@ pub record Plays (start : State) (longest : ℕ) (turns : List Turn) (whole : Bo
   pub lines_are : lines ≡ (day start asked).lines
   pub records_are : records ≡ (day start asked).records
   pub state_is : end ≡ (day start asked).state
+
+-- the state of a market whose books hold these lists, and have so many places
+abbrev pub state_with : {Q : Type 0} → Market Q → Books → Rooms → State
+state_with market books rooms = record {
+  increment = market.class.increment;
+  unit = market.class.unit;
+  last = market.last;
+  issued = market.issued;
+  phase = market.phase;
+  quotes = market.quotes.quotes;
+  aside = market.quotes.aside;
+  books = books;
+  rooms = rooms;
+}
 
 -- from the opening on: and the law holds of what is handed back
 pub record PlaysDay (sheet : DaySheet) (rooms : Rooms) (longest : ℕ) (turns : List Turn) (whole : Bool) (lines : List Line) (records : List Trade) (end : State) : Type 0 where

@@ -2,7 +2,7 @@
 ghost use Rattle.std.specs.Prelude.{◌≡◌, [], ◌∷◌, ◌++◌, length, is_ok, if◌then◌else◌};
 ghost use Rattle.matching.specs.Trades.{written};
 ghost use Rattle.runs.specs.Days.{made, wrote};
-ghost use Rattle.runs.specs.Plays.{Plays, PlaysDay};
+ghost use Rattle.runs.specs.Plays.{Plays, PlaysDay, state_with};
 
 use crate::call::{Call, Line};
 use crate::journal::Journal;
@@ -10,7 +10,7 @@ use crate::turn::Turn;
 use books::book::Book;
 use market::trading::Market;
 use market::venue::Venue;
-use matching::book_set::{BookSet, FourBooks};
+use matching::book_set::FourBooks;
 use matching::trade::Trade;
 use rules::form::Form;
 use rules::sheet::DaySheet;
@@ -129,7 +129,8 @@ fn play_over<V: Venue>(
     }
 }
 
-// Opens a market over any four books and plays the turns. The law of every run holds of what is handed back.
+// Opens a market over any four books and plays the turns. The law of every run holds of what is handed back. The clause
+// reads the state off the market and its books, with no word of ours between.
 pub fn play<
     DB: Book<Side = Bids>,
     DA: Book<Side = Asks>,
@@ -142,7 +143,7 @@ pub fn play<
     turns: Vec<Turn>,
     list: &mut [Trade],
 ) -> Played<Market<FourBooks<DB, DA, KB, KA>>>
-    ensures { PlaysDay sheet.now (⟦<FourBooks<DB, DA, KB, KA> as BookSet>⟧.rooms books) (length list.old) turns.items (is_ok result.done) result.journal.lines.items result.journal.trades.items (⟦<Market<FourBooks<DB, DA, KB, KA>> as Venue>⟧.state result.market) }
+    ensures { PlaysDay sheet.now (record { bids = DB.Book.room books.bids.displayed; asks = DA.Book.room books.asks.displayed; dark_bids = KB.Book.room books.bids.dark; dark_asks = KA.Book.room books.asks.dark }) (length list.old) turns.items (is_ok result.done) result.journal.lines.items result.journal.trades.items (state_with result.market (record { bids = DB.Book.orders result.market.books.bids.displayed; asks = DA.Book.orders result.market.books.asks.displayed; dark_bids = KB.Book.orders result.market.books.bids.dark; dark_asks = KA.Book.orders result.market.books.asks.dark }) (record { bids = DB.Book.room result.market.books.bids.displayed; asks = DA.Book.room result.market.books.asks.displayed; dark_bids = KB.Book.room result.market.books.bids.dark; dark_asks = KA.Book.room result.market.books.asks.dark })) }
 {
     play_over(heap, sheet, books, turns, list)
 }

@@ -4,6 +4,7 @@ ghost use Rattle.text.specs.Lines.{cut_after, Reads};
 
 use std::alloc::{AllocError, Global};
 
+// Three cases, where a `Result` has two.
 #[derive(Drop)]
 pub enum Line<'a> {
     // empty, or a comment: nothing is answered

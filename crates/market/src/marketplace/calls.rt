@@ -11,7 +11,7 @@ impl TryFrom<u32> for Marketplace {
     ghost try_from_gives = { Numbered };
 
     fn try_from(number: u32) -> Result<Marketplace, Refusal> {
-        if number < 1 || number > 8 {
+        if !(1..=8).contains(&number) {
             return Err(Refusal::NoMarketplace);
         }
         Ok(Marketplace { number })

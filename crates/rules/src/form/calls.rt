@@ -21,6 +21,7 @@ impl Form {
         ensures { Restated self limit shares result }
     {
         let class = self.class;
+        // no `?`, since a refused form goes back
         if let Err(refusal) = class.check(limit, shares) {
             return Err(HandedBack {
                 refusal,

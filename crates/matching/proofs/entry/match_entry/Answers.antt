@@ -6,12 +6,6 @@ use Rattle.matching.proofs.entry.match_entry.Goals as goal
 pub loop-candidate-init : goal.loop-candidate-init
 loop-candidate-init g c = (turning_none g.D.Side.Side.rule c.args.active.now c.args.around.now _ c.args.list.now, refl, refl)
 
-pub overflow_add-trades : goal.overflow_add-trades
-overflow_add-trades g c =
-    let d = g.met.D.Book.kept c.args.met.now.displayed in
-    let k = g.met.K.Book.kept c.args.met.now.dark in
-    omega (arith, c.loop-candidate.invariant.0.so_far.within, d.0, d.1, k.0, k.1)
-
 pub loop-candidate-smaller : goal.loop-candidate-smaller
 loop-candidate-smaller g c =
     let scene : Scene = record { displayed = g.D.Book.orders c.loop-candidate.met.displayed; dark = g.K.Book.orders c.loop-candidate.met.dark; shares = c.loop-candidate.shares } in

@@ -5,14 +5,6 @@ use Rattle.matching.proofs.book_set.FourBooksBookSet.look_over.Goals as goal
 pub loop-pair-init : goal.loop-pair-init
 loop-pair-init g c = (looking_none c.args.away.increment c.args.away.quote _ c.args.list.now, refl)
 
-pub overflow_add-trades : goal.overflow_add-trades
-overflow_add-trades g c =
-    let db = g.met.DB.Book.kept c.args.self.now.bids.displayed in
-    let da = g.met.DA.Book.kept c.args.self.now.asks.displayed in
-    let kb = g.met.KB.Book.kept c.args.self.now.bids.dark in
-    let ka = g.met.KA.Book.kept c.args.self.now.asks.dark in
-    omega (arith, c.loop-pair.invariant.0.so_far.within, db.0, db.1, da.0, da.1, kb.0, kb.1, ka.0, ka.1)
-
 pub loop-pair-smaller : goal.loop-pair-smaller
 loop-pair-smaller g c =
     turn_fewer c.args.away.increment c.args.away.quote _ _ c.in-Some.pair (sym c.in-Some.ensures) (
