@@ -96,10 +96,6 @@ module _ (start : State) (longest : ℕ) (turns rest : List Turn) (lines : List 
 pub lent_part : (end lent longest : ℕ) (list : List Trade) → end ≡ min lent (length list) → length list ≡ longest → length (take (end - 0) list) ≡ min lent longest
 lent_part end lent longest list is long = omega (arith, length-take (end - 0) list)
 
-pub none_left : (turns : List Turn) (n : ℕ) → n ≡ length turns → n ≡ 0 → turns ≡ []
-none_left [] n is none = refl
-none_left (turn ∷ turns) n is none = absurd (let no : ⊥ = omega arith in no)
-
 pub not_ok : {X E : Type 0} (r : Result X E) → is_err r ≡ true → is_ok r ≡ true → ⊥
 not_ok (Ok x) bad good = both_ways false refl bad
 not_ok (Err e) bad good = both_ways false refl good

@@ -1,6 +1,6 @@
-use Rattle.std.proofs.Common.{◌-◌, length, take, vec_items, refl}
-use Rattle.std.specs.Vec.Iter.{into_iter_items, into_iter_len}
-use Rattle.runs.proofs.Progress.{none_yet, one_more, plays_so, lent_part, none_left, not_ok}
+use Rattle.std.proofs.Common.{◌-◌, length, take, vec_items}
+use Rattle.std.specs.Vec.Iter.{into_iter_items}
+use Rattle.runs.proofs.Progress.{none_yet, one_more, plays_so, lent_part, not_ok}
 use Rattle.runs.proofs.play.play_turns.Goals as goal
 
 pub loop-turn-init : goal.loop-turn-init
@@ -20,9 +20,3 @@ returns-in_err-play_call g c =
     c.into_iter-turn-iterator.ensures.into_iter_gives.0
     c.in_err-play_call.ensures.lines c.in_err-play_call.ensures.trades c.in_err-play_call.ensures.state
     (λ good. absurd (not_ok c.from_residual.result c.from_residual.ensures.0 good))
-
-pub returns : goal.returns
-returns g c =
-    plays_so _ _ _ _ _ _ _ c.loop-turn.invariant (vec_items c.args.turns) _ (vec_items c.loop-turn.journal.lines) (vec_items c.loop-turn.journal.trades) (g.V.Venue.state c.loop-turn.market)
-    c.into_iter-turn-iterator.ensures.into_iter_gives.0 refl refl refl
-    (λ _. none_left (into_iter_items c.loop-turn.turn-iterator) (into_iter_len c.loop-turn.turn-iterator) c.loop-turn.turn-iterator.rest.ok.0 c.in-None.ensures.steps.0)
