@@ -1,7 +1,6 @@
 // Drives each kind of book beside a plain model, on both sides, and compares every answer.
 #![tactic(auto)]
 
-mod answer;
 mod draws;
 mod model;
 mod operation;
@@ -13,7 +12,6 @@ use books::packed::Packed;
 use chained::chained::lend;
 use chained::record::Record;
 use rules::side::{Asks, Bids, Side};
-use rules::terms::SideName;
 use std::io;
 use title::{Kind, Title};
 use trial::{Failure, Outcome, Trial};
@@ -31,7 +29,8 @@ fn report(rt: &HostRuntime, title: Title, outcome: Outcome) -> io::Result<()> {
     }
 }
 
-fn try_packed<S: Side>(rt: &HostRuntime, side: SideName) -> io::Result<()> {
+fn try_packed<S: Side>(rt: &HostRuntime) -> io::Result<()> {
+    let side = S::name();
     for seed in 1..3 {
         let mut book: Packed<S> = Packed::new();
         let trial = Trial::new(rt.alloc(), side, 32, seed);
@@ -46,12 +45,8 @@ fn try_packed<S: Side>(rt: &HostRuntime, side: SideName) -> io::Result<()> {
 }
 
 // A second book finds the records as the first one has left them.
-fn try_chained<S: Side>(
-    rt: &HostRuntime,
-    side: SideName,
-    records: usize,
-    places: usize,
-) -> io::Result<()> {
+fn try_chained<S: Side>(rt: &HostRuntime, records: usize, places: usize) -> io::Result<()> {
+    let side = S::name();
     let mut lent = vec![in rt.alloc(); Record::BLANK; records]?;
     for seed in 1..3 {
         let trial = Trial::new(rt.alloc(), side, places, seed);
@@ -66,17 +61,17 @@ fn try_chained<S: Side>(
     Ok(())
 }
 
-fn try_side<S: Side>(rt: &HostRuntime, side: SideName) -> io::Result<()> {
-    try_packed::<S>(rt, side)?;
-    try_chained::<S>(rt, side, 33, 32)?;
-    try_chained::<S>(rt, side, 2, 1)?;
-    try_chained::<S>(rt, side, 1, 0)?;
-    try_chained::<S>(rt, side, 0, 0)?;
-    try_chained::<S>(rt, side, 5000, 4096)
+fn try_side<S: Side>(rt: &HostRuntime) -> io::Result<()> {
+    try_packed::<S>(rt)?;
+    try_chained::<S>(rt, 33, 32)?;
+    try_chained::<S>(rt, 2, 1)?;
+    try_chained::<S>(rt, 1, 0)?;
+    try_chained::<S>(rt, 0, 0)?;
+    try_chained::<S>(rt, 5000, 4096)
 }
 
 fn main(rt: HostRuntime) -> io::Result<()> {
-    try_side::<Bids>(&rt, SideName::Bid)?;
-    try_side::<Asks>(&rt, SideName::Ask)?;
+    try_side::<Bids>(&rt)?;
+    try_side::<Asks>(&rt)?;
     println!(rt; "all agree")
 }

@@ -1,8 +1,7 @@
 // A book in its plainest form, which shares no code with the others: a list that each call scans.
 ghost use Rattle.std.specs.Prelude.{◌≤◌, IfOk, vec_len};
 
-use crate::answer::Answer;
-use crate::operation::Operation;
+use crate::operation::{Answer, Operation};
 use books::standing::Standing;
 use rules::refusal::Refusal;
 use rules::terms::SideName;

@@ -1,5 +1,5 @@
 // How many operations were accepted, and how many met each refusal.
-use crate::answer::Answer;
+use crate::operation::Answer;
 use rules::refusal::Refusal;
 use std::fmt;
 
