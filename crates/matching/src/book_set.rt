@@ -1,5 +1,5 @@
 // Four books taken together, so that the calls of a market are written over them once.
-ghost use Rattle.std.specs.Prelude.{◌≡◌, ◌≤◌, true, length, nat_lt};
+ghost use Rattle.std.specs.Prelude.{◌≡◌, ◌≤◌, true};
 ghost use Rattle.books.specs.Lists.{shares_at, find, removed};
 ghost use Rattle.matching.specs.Sets.{Rooms, empty_books, room_left, own_list, placed_in, seen_from, find_in, find_either, unless_found, without_in, shares_or_refusal, open_shares};
 ghost use Rattle.matching.specs.Looking.{Books, ours_in, pair_in, paired, standing_in, looked, Looks};
@@ -76,12 +76,6 @@ pub struct FourBooks<DB, DA, KB, KA> {
     pub asks: SideBooks<DA, KA>,
 }
 
-fn has_room<B: Book>(book: &B) -> bool
-    ensures { result ≡ nat_lt (length (B.Book.orders book.now)) (B.Book.room book.now) }
-{
-    book.count() < book.places()
-}
-
 // Removes an order from the first of two books where it stands.
 fn remove_either<X: Book, Y: Book>(
     number: u32,
@@ -93,12 +87,14 @@ fn remove_either<X: Book, Y: Book>(
     ensures second { Y.Book.orders second.new ≡ unless_found (find number (X.Book.orders first.old)) number (Y.Book.orders second.old) }
     ensures rooms { (X.Book.room first.new ≡ X.Book.room first.old) × (Y.Book.room second.new ≡ Y.Book.room second.old) }
 {
+    // no `or_else`: of a closure that removes, the check does not find what it leaves
     match first.remove(number) {
         Err(_) => second.remove(number),
         removed => removed,
     }
 }
 
+// Where a match has an arm for each side, the books of the two sides are of different types.
 impl<
     DB: Book<Side = Bids>,
     DA: Book<Side = Asks>,
@@ -110,12 +106,10 @@ impl<
         ensures { result ≡ pair_in away.now.increment away.now.quote (⟦<Self as BookSet>⟧.lists self.now) }
     {
         let best = away.joined(self.ours());
-        match front_pair::<Bids, DA, KB>(&best, &self.asks.displayed, &self.bids.dark) {
-            Some(trade) => Some(Pair::Sale(trade)),
-            None => front_pair::<Asks, DB, KA>(&best, &self.bids.displayed, &self.asks.dark).map(
-                Pair::Purchase,
-            ),
-        }
+        let sale = front_pair::<Bids, DA, KB>(&best, &self.asks.displayed, &self.bids.dark);
+        let purchase = || front_pair::<Asks, DB, KA>(&best, &self.bids.displayed, &self.asks.dark);
+        sale.map(Pair::Sale)
+            .or_else(|| purchase().map(Pair::Purchase))
     }
 
     // Trades a pair, from the asks and the dark bids or from the bids and the dark asks.
@@ -147,17 +141,12 @@ impl<
     ghost few = { Prim.search rules };
 
     fn empty(&mut self) {
-        self.bids.displayed.empty();
-        self.asks.displayed.empty();
-        self.bids.dark.empty();
-        self.asks.dark.empty();
+        self.bids.empty();
+        self.asks.empty();
     }
 
     fn count(&self) -> usize {
-        self.bids.displayed.count()
-            + self.asks.displayed.count()
-            + self.bids.dark.count()
-            + self.asks.dark.count()
+        self.bids.count() + self.asks.count()
     }
 
     fn ours(&self) -> Quote {
@@ -168,11 +157,9 @@ impl<
     }
 
     fn has_room(&self, side: SideName, displayed: bool) -> bool {
-        match (side, displayed) {
-            (SideName::Bid, true) => has_room(&self.bids.displayed),
-            (SideName::Bid, false) => has_room(&self.bids.dark),
-            (SideName::Ask, true) => has_room(&self.asks.displayed),
-            (SideName::Ask, false) => has_room(&self.asks.dark),
+        match side {
+            SideName::Bid => self.bids.has_room(displayed),
+            SideName::Ask => self.asks.has_room(displayed),
         }
     }
 
@@ -194,6 +181,7 @@ impl<
     }
 
     fn remove(&mut self, number: u32) -> Result<u32, Refusal> {
+        // as in `remove_either`
         match remove_either(number, &mut self.bids.displayed, &mut self.asks.displayed) {
             Err(_) => remove_either(number, &mut self.bids.dark, &mut self.asks.dark),
             removed => removed,
