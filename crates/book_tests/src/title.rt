@@ -2,6 +2,7 @@
 use rules::terms::SideName;
 use std::fmt;
 
+// What kind of book a run drives: this program always says in how many records.
 #[derive(Clone, Copy)]
 pub enum Kind {
     Packed,

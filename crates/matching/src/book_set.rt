@@ -51,7 +51,8 @@ pub trait BookSet {
         ensures lists { lists self.new ≡ without_in number (lists self.old) }
         ensures rooms { rooms self.new ≡ rooms self.old };
 
-    // Matches an entry of that side, ends its rest and writes the trades to the front of the list.
+    // Matches an entry of that side, ends its rest and writes the trades to the front of the list. The side stands beside
+    // the entry, which has none: matching is written over the type of the side that it meets.
     fn place(
         &mut self,
         side: SideName,

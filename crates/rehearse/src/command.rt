@@ -10,6 +10,7 @@ pub const LIST: usize = 16_384;
 // The most records of a chained book that a line may ask for.
 const MOST_RECORDS: u32 = 5_000;
 
+// What kind of book a line asks for.
 #[derive(Clone, Copy)]
 pub enum BookKind {
     Packed,

@@ -13,7 +13,8 @@ use runs::call::Call;
 use runs::play::make;
 use std::io;
 
-// A form is written first, against the sheet in force.
+// A form is written first, against the sheet in force. Case by case: a method of every call, over what writes a form,
+// would ask that it may be called.
 fn written(sheet: &DaySheet, call: Call<Terms>) -> Result<Call<Form>, Refusal> {
     Ok(match call {
         Call::Enter(terms) => Call::Enter(Form::write(sheet, terms)?),
