@@ -76,23 +76,15 @@ impl<S: Side> Book for Packed<S> {
     }
 
     fn add(&mut self, order: Standing) -> Result<(), Refusal> {
-        if !order.is_sound() || self.arrivals.index_of(order.number).is_some() {
-            return Err(Refusal::BadOrder);
-        }
-        if self.arrivals.is_full() {
-            return Err(Refusal::BookFull);
-        }
+        self.check_add(order)?;
         self.arrivals.push(order);
         Ok(())
     }
 
     fn take(&mut self, shares: u32) -> Result<(), Refusal> {
-        let index = self.arrivals.front_index::<S>().ok_or(Refusal::BadTake)?;
-        let left = self.arrivals.at(index).shares;
-        if shares < 1 || shares > left {
-            return Err(Refusal::BadTake);
-        }
-        if shares == left {
+        let order = self.check_take(shares)?;
+        let index = self.arrivals.front_index::<S>().unwrap();
+        if shares == order.shares {
             self.arrivals.close_up(index);
         } else {
             self.arrivals.reduce(index, shares);

@@ -1,9 +1,10 @@
 -- An entry that a check refuses.
 use Rattle.std.proofs.Common.{◌≡◌, List, Some, None, Err, Option, sym, refl, subst}
-use Rattle.market.specs.Calls.{State, Done, unless, passed, AnswersEntry}
+use Rattle.market.specs.Calls.{State, Done, unless, AnswersEntry}
 use Rattle.market.specs.declared.answers.Entered.{Entered}
 use Rattle.matching.specs.Trades.{written}
 use Rattle.matching.specs.declared.trade.Trade.{Trade}
+use Rattle.rules.specs.Refusals.{passed}
 use Rattle.rules.specs.declared.form.Form.{Form}
 use Rattle.rules.specs.declared.refusal.Refusal.{Refusal}
 

@@ -91,11 +91,6 @@ not_halted Open = true
 not_halted Halted = false
 not_halted Closed = true
 
--- what a check answers that passes or refuses
-abbrev pub passed : Option Refusal → Result (Unit {0}) Refusal
-passed None = Ok tt
-passed (Some e) = Err e
-
 -- all calls but questions come first, the caller's list of n records last
 abbrev pub first_checked : State → Option Refusal → Option Refusal
 first_checked s later = check (not_closed s.phase) MarketClosed later

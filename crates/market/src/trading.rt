@@ -1,8 +1,9 @@
 // The market over any set of books.
 ghost use Rattle.std.specs.Prelude.{◌≡◌, ◌+◌, ◌<◌, length, Ok, None};
-ghost use Rattle.market.specs.Calls.{State, look, with_books, away_at, passed, entry_refusal, list_checked, first_checked, entered_at};
+ghost use Rattle.market.specs.Calls.{State, look, with_books, away_at, entry_refusal, list_checked, first_checked, entered_at};
 ghost use Rattle.market.specs.Marketplaces.{NumberedFor};
 ghost use Rattle.matching.specs.Trades.{written};
+ghost use Rattle.rules.specs.Refusals.{passed};
 
 use crate::answers::{Aside, Cancelled, Entered};
 use crate::marketplace::Marketplace;

@@ -10,12 +10,6 @@ pub struct SideBooks<D, K> {
     pub dark: K,
 }
 
-fn has_room<B: Book>(book: &B) -> bool
-    ensures { result ≡ nat_lt (length (B.Book.orders book.now)) (B.Book.room book.now) }
-{
-    book.count() < book.places()
-}
-
 impl<D: Book, K: Book> SideBooks<D, K> {
     pub(crate) fn empty(&mut self)
         ensures displayed { D.Book.orders self.new.displayed ≡ [] }
@@ -38,9 +32,9 @@ impl<D: Book, K: Book> SideBooks<D, K> {
         ensures { result ≡ (if displayed then nat_lt (length (D.Book.orders self.now.displayed)) (D.Book.room self.now.displayed) else nat_lt (length (K.Book.orders self.now.dark)) (K.Book.room self.now.dark)) }
     {
         if displayed {
-            has_room(&self.displayed)
+            self.displayed.has_room()
         } else {
-            has_room(&self.dark)
+            self.dark.has_room()
         }
     }
 }

@@ -59,12 +59,6 @@ impl Arrivals {
         self.held().len()
     }
 
-    pub(crate) fn is_full(&self) -> bool
-        ensures { result ≡ (length self.now == 32) }
-    {
-        self.count() == PLACES
-    }
-
     pub(crate) fn at(&self, index: usize) -> Standing
         requires { index < length self.now }
         ensures { result ≡ slice_index_or self.now index blank }

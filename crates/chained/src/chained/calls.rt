@@ -1,5 +1,5 @@
 // The calls of a chained book.
-ghost use Rattle.std.specs.Prelude.{◌≡◌, ◌-◌, Bool, ◌==◌, min, [], length, drop, nat_lt};
+ghost use Rattle.std.specs.Prelude.{◌≡◌, ◌-◌, Bool, ◌==◌, min, [], length, drop};
 ghost use Rattle.books.specs.Lists.{most_places};
 ghost use Rattle.books.specs.declared.standing.Standing.{Standing};
 ghost use Rattle.chained.specs.Laws.{held_kept};
@@ -56,12 +56,6 @@ impl<'a, S: Side> Chained<'a, S> {
             chains,
             side: PhantomData,
         }
-    }
-
-    fn has_space(&self) -> bool
-        ensures { result ≡ nat_lt (length (orders_in self.now.chains.records.now)) (room_in self.now.chains.records.now) }
-    {
-        self.count() < self.places()
     }
 
     // The spot of the first order that passes, or behind the last order.
@@ -135,22 +129,14 @@ impl<S: Side> Book for Chained<'_, S> {
     }
 
     fn add(&mut self, order: Standing) -> Result<(), Refusal> {
-        if !order.is_sound() || self.find(order.number).is_some() {
-            return Err(Refusal::BadOrder);
-        }
-        if !self.has_space() {
-            return Err(Refusal::BookFull);
-        }
+        self.check_add(order)?;
         let spot = self.seek(|other| S::comes_first(order.price, other.price));
         self.chains.link(spot.before, order);
         Ok(())
     }
 
     fn take(&mut self, shares: u32) -> Result<(), Refusal> {
-        let order = self.front().ok_or(Refusal::BadTake)?;
-        if shares == 0 || shares > order.shares {
-            return Err(Refusal::BadTake);
-        }
+        let order = self.check_take(shares)?;
         let here = self.chains.first();
         if shares == order.shares {
             self.chains.unlink(Spot { before: 0, here });
