@@ -36,8 +36,9 @@ pub trait Book {
     fn shares_at(&self, price: u32) -> u64
         ensures { result ≡ shares_at price (orders self.now) };
 
-    // The checks are bodies of the trait, and no functions over any book: through such a one a book's own `add` would lead back to itself.
+    // The checks have their bodies here, and are no functions beside the trait: a call of one from a book's own `add` would lead back to `add`.
 
+    // Whether a place is free.
     fn has_room(&self) -> bool
         ensures { result ≡ nat_lt (length (orders self.now)) (room self.now) }
     {
