@@ -4,10 +4,6 @@ use Rattle.std.proofs.lemmas.List.{get_or-set_same, get_or-set_other}
 use Rattle.chained.specs.Records.{blank, at, next_of, free_of, order_of, with_next, with_free, Cleared}
 use Rattle.chained.specs.declared.record.Record.{Record}
 
-pub no_anchor : (rs : List Record) → length rs ≡ 0 → 0 ≡ next_of rs 0
-no_anchor [] e = refl
-no_anchor (r ∷ rs) e = absurd (omega arith)
-
 pub at_same : (rs : List Record) (k : ℕ) (v : Record) → k < length rs → at (set rs k v) k ≡ v
 at_same rs k v h = get_or-set_same rs k v blank h
 

@@ -45,9 +45,6 @@ held_cleared rs n count few c none =
     let f = formed_cleared rs n c in
     (omega (arith, c.many), (omega (arith, length_orders rs, ap length l), (f.0, (f.1, (ap (λ xs. all_sound (map (order_of rs) xs)) l, tt)))))
 
-pub orders_cleared : (rs : List Record) (n : ℕ) → Cleared n rs → orders_in rs ≡ []
-orders_cleared rs n c = ap (map (order_of rs)) (line_cleared rs n c)
-
 -- The front
 
 module _ (rs : List Record) (apart : Apart rs) (whole : Whole rs) where
@@ -115,9 +112,6 @@ abbrev pub numbered : ℕ → List Record → ℕ → Bool
 numbered number rs j = eqb (order_of rs j).number number
 
 module _ (b : ℕ → Bool) (rs : List Record) (count : ℕ) (h : Held count rs) (some : first b (line rs) ≢ 0) where
-  pub cut_here : first b (line rs) < length rs
-  cut_here = unlink_here rs b h.1.1.0 h.1.1.1.0 (omega (arith, some))
-
   pub cut_before : stop b 0 (line rs) < length rs
   cut_before = unlink_before rs b h.1.1.0 h.1.1.1.0 (omega (arith, some))
 
@@ -170,9 +164,6 @@ module _ (rs : List Record) (count : ℕ) (h : Held count rs) (some : next_of rs
 
   sound_parts : (sound (order_of rs (next_of rs 0)) ≡ true) × (all_sound (behind rs) ≡ true)
   sound_parts = and_parts (sound (order_of rs (next_of rs 0))) (all_sound (behind rs)) (sym (ap all_sound orders_front) ∙ h.1.1.1.1.0)
-
-  pub take_count : 0 < count
-  take_count = cut_count any rs count h some_any
 
   pub taken_whole : (rs' : List Record) (here count' : ℕ) → here ≡ next_of rs 0 → rs' ≡ unlinked rs 0 here → count' + 1 ≡ count → Becomes (behind rs) rs rs' count'
   taken_whole rs' here count' e is fewer =

@@ -115,6 +115,7 @@ impl<S: Side> Book for Chained<'_, S> {
         self.chains.order_at(self.spot_of(number).here)
     }
 
+    // a walk of its own, since `seek` stops at an order: the links lead on, and no index is counted
     fn shares_at(&self, price: u32) -> u64 {
         let mut sum = 0;
         let mut here = self.chains.first();
