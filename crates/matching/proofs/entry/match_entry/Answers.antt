@@ -1,4 +1,4 @@
-use Rattle.std.proofs.Common.{sym, refl, ◌∙◌, arith}
+use Rattle.std.proofs.Common.{sym, refl, ◌∙◌}
 use Rattle.matching.specs.Matching.{Scene}
 use Rattle.matching.proofs.Turns.{turning_none, turning_more, turning_all, shares_fall}
 use Rattle.matching.proofs.entry.match_entry.Goals as goal

@@ -1,4 +1,4 @@
-use Rattle.std.proofs.Common.{sym, refl, ◌∙◌, arith, rules}
+use Rattle.std.proofs.Common.{sym, refl, ◌∙◌, rules}
 use Rattle.matching.proofs.Pairs.{looking_none, looking_turn, looking_all, turn_fewer}
 use Rattle.matching.proofs.book_set.FourBooksBookSet.look_over.Goals as goal
 
