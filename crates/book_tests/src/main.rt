@@ -29,36 +29,36 @@ fn report(rt: &HostRuntime, title: Title, outcome: Outcome) -> io::Result<()> {
     }
 }
 
-fn try_packed<S: Side>(rt: &HostRuntime) -> io::Result<()> {
+// Two trials, each with a seed of its own, which are run on books of that kind.
+fn try_kind<S: Side, F: FnMut(Trial) -> Outcome>(
+    rt: &HostRuntime,
+    kind: Kind,
+    places: usize,
+    mut run: F,
+) -> io::Result<()>
+    requires { F.IsAlwaysCallable run }
+{
     let side = S::name();
     for seed in 1..3 {
-        let mut book: Packed<S> = Packed::new();
-        let trial = Trial::new(rt.alloc(), side, 32, seed);
-        let title = Title {
-            side,
-            kind: Kind::Packed,
-            seed,
-        };
-        report(rt, title, trial.run(&mut book))?;
+        let trial = Trial::new(rt.alloc(), side, places, seed);
+        report(rt, Title { side, kind, seed }, run(trial))?;
     }
     Ok(())
 }
 
-// A second book finds the records as the first one has left them.
+fn try_packed<S: Side>(rt: &HostRuntime) -> io::Result<()> {
+    try_kind::<S, _>(rt, Kind::Packed, 32, |trial| {
+        let mut book: Packed<S> = Packed::new();
+        trial.run(&mut book)
+    })
+}
+
+// The second book finds the records as the first one has left them.
 fn try_chained<S: Side>(rt: &HostRuntime, records: usize, places: usize) -> io::Result<()> {
-    let side = S::name();
     let mut lent = vec![in rt.alloc(); Record::BLANK; records]?;
-    for seed in 1..3 {
-        let trial = Trial::new(rt.alloc(), side, places, seed);
-        let outcome = lend::<S, Trial>(lent.as_mut_slice(), trial);
-        let title = Title {
-            side,
-            kind: Kind::Chained(records),
-            seed,
-        };
-        report(rt, title, outcome)?;
-    }
-    Ok(())
+    try_kind::<S, _>(rt, Kind::Chained(records), places, |trial| {
+        lend::<S, Trial>(lent.as_mut_slice(), trial)
+    })
 }
 
 fn try_side<S: Side>(rt: &HostRuntime) -> io::Result<()> {

@@ -42,6 +42,8 @@ pub struct Outcome {
     pub result: Result<(), Failure>,
 }
 
+// Book and model stand side by side wherever they are compared: that is what a trial does.
+
 fn same_orders<B: Book>(book: &B, model: &Model, last: u32) -> bool {
     (0..last).all(|number| book.find(number) == model.find(number))
 }

@@ -26,6 +26,7 @@ fn away_best(quotes: &[Quote]) -> Quote
 }
 
 impl Quotes {
+    // no derived default: a clause says what is made
     pub(crate) fn new() -> Quotes
         ensures quotes { result.quotes ≡ replicate 8 no_quote }
         ensures aside { result.aside ≡ 0 }

@@ -83,6 +83,7 @@ impl Way {
     }
 }
 
+// As a refusal prints its number: two enums of a line each, and no trait over both.
 impl fmt::Display for Way {
     ghost output = { λ way. Some (decimal (way_number way)) };
 

@@ -76,6 +76,7 @@ fn form(day: &DaySheet, terms: Terms) -> Result<Answer, Denial>
 }
 
 impl Desk {
+    // no derived default: a clause says what is made
     pub fn new() -> Desk
         ensures { result.day ≡ None }
     {

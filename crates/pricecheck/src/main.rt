@@ -14,7 +14,8 @@ fn answer_to(desk: &mut Desk, fields: &[&[u8]]) -> Result<Answer, Denial> {
     desk.answer(command)
 }
 
-// What is answered to one line; a quiet line has no answer.
+// What is answered to one line; a quiet line has no answer. The two programs share how a line is read (`text`), and not
+// what is done with it: this one answers at once, the other one hands a command on.
 fn respond(rt: &HostRuntime, desk: &mut Desk, bytes: &[u8]) -> io::Result<()> {
     let answered = match read_line(rt.alloc(), bytes)? {
         Line::Quiet => return Ok(()),

@@ -10,7 +10,8 @@ pub const LIST: usize = 16_384;
 // The most records of a chained book that a line may ask for.
 const MOST_RECORDS: u32 = 5_000;
 
-// What kind of book a line asks for.
+// What kind of book a line asks for. The test of the books names the same two kinds: neither program is a library of
+// the other.
 #[derive(Clone, Copy)]
 pub enum BookKind {
     Packed,

@@ -19,7 +19,7 @@ pub struct Desk {
     lent: usize,
 }
 
-// A quiet line is none.
+// A quiet line is none. The two programs share how a line is read (`text`), and not what is done with it.
 fn understand(heap: Global, bytes: &[u8]) -> Result<Option<Typed>, AllocError> {
     let command = match read_line(heap, bytes)? {
         Line::Quiet => return Ok(None),

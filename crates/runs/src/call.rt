@@ -12,6 +12,7 @@ use rules::terms::{SideName, Terms};
 pub enum Call<F> {
     Enter(F),
     Cancel(u32),
+    // three fields, as the function of the interface has three parameters: a struct of them would be taken apart there
     Notice {
         marketplace: u32,
         side: SideName,

@@ -1,5 +1,6 @@
 // Making a call, and playing a list of them.
 ghost use Rattle.std.specs.Prelude.{◌≡◌, [], ◌∷◌, ◌++◌, length, is_ok, if◌then◌else◌};
+ghost use Rattle.market.specs.Calls.{entered};
 ghost use Rattle.matching.specs.Trades.{written};
 ghost use Rattle.runs.specs.Days.{made, wrote};
 ghost use Rattle.runs.specs.Plays.{Plays, PlaysDay, state_with};
@@ -8,11 +9,13 @@ use crate::call::{Call, Line};
 use crate::journal::Journal;
 use crate::turn::Turn;
 use books::book::Book;
+use market::answers::Entered;
 use market::trading::Market;
 use market::venue::Venue;
 use matching::book_set::FourBooks;
 use matching::trade::Trade;
 use rules::form::Form;
+use rules::refusal::Refusal;
 use rules::sheet::DaySheet;
 use rules::side::{Asks, Bids};
 use std::alloc::{AllocError, Global};
@@ -49,7 +52,6 @@ pub fn make<V: Venue>(market: &mut V, call: Call<Form>, list: &mut [Trade]) -> L
     }
 }
 
-#[tactic(auto, using(crate::proofs::Answering::noted_entry, crate::proofs::Answering::entered_is, crate::proofs::Answering::refused_is))]
 fn enter<V: Venue>(market: &mut V, form: Form, list: &mut [Trade]) -> Line
     ensures line { result ≡ (made (V.Venue.state market.old) (Call.Enter form) (length list.old)).line }
     ensures state { V.Venue.state market.new ≡ (made (V.Venue.state market.old) (Call.Enter form) (length list.old)).state }
@@ -57,12 +59,25 @@ fn enter<V: Venue>(market: &mut V, form: Form, list: &mut [Trade]) -> Line
 {
     let terms = form.terms();
     let class = form.class();
-    let answer = market.enter(form, list).map_err(|back| back.refusal);
+    let answer = answer_entry(market, form, list);
     Line::Entry {
         terms,
         class,
         answer,
     }
+}
+
+// A form that is handed back is let go.
+fn answer_entry<V: Venue>(
+    market: &mut V,
+    form: Form,
+    list: &mut [Trade],
+) -> Result<Entered, Refusal>
+    ensures answer { result ≡ (entered (V.Venue.state market.old) form (length list.old)).answer }
+    ensures state { V.Venue.state market.new ≡ (entered (V.Venue.state market.old) form (length list.old)).state }
+    ensures list { list.new ≡ written (entered (V.Venue.state market.old) form (length list.old)).trades list.old }
+{
+    Ok(market.enter(form, list)?)
 }
 
 // Makes a call and notes it. Where there is no memory to note it, the call is not made.

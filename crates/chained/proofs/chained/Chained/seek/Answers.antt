@@ -1,7 +1,5 @@
-use Rattle.std.proofs.Common.{Bool, true, false, sym}
-use Rattle.books.specs.declared.standing.Standing.{Standing}
-use Rattle.chained.specs.Records.{Means}
-use Rattle.chained.proofs.Steps.{along_first, along_next, seek_starts, seek_hits, seek_goes, seek_ends, along_below, along_falls}
+use Rattle.std.proofs.Common.{false, sym}
+use Rattle.chained.proofs.Steps.{along_first, along_next, seek_starts, seek_goes, along_below, along_falls}
 use Rattle.chained.proofs.chained.Chained.seek.Goals as goal
 
 pub loop-here-init : goal.loop-here-init
@@ -30,20 +28,3 @@ loop-here-preserved g c =
           seek_goes rs meant c.loop-here.before c.loop-here.here (c.loop-here.invariant.seeking meant m) c.loop-here-test.true
           c.at-record.result c.at-record.ensures (sym (m c.at-record.result.order false c.if-passes.ensures));
     }
-
-pub returns-then-passes : goal.returns-then-passes
-returns-then-passes g c =
-    let rs = c.args.self.now.chains.records.now in
-    let hit =
-    λ (meant : Standing → Bool) (m : Means (goal.F-post g c.args.passes) meant).
-    seek_hits rs meant c.loop-here.before c.loop-here.here (c.loop-here.invariant.seeking meant m) c.loop-here-test.true
-    c.at-record.result c.at-record.ensures (sym (m c.at-record.result.order true c.if-passes.ensures)) in
-    record { before = λ meant m. (hit meant m).0; here = λ meant m. (hit meant m).1 }
-
-pub returns : goal.returns
-returns g c =
-    let rs = c.args.self.now.chains.records.now in
-    let end =
-    λ (meant : Standing → Bool) (m : Means (goal.F-post g c.args.passes) meant).
-    seek_ends rs meant c.loop-here.before c.loop-here.here (c.loop-here.invariant.seeking meant m) c.loop-here-test.false in
-    record { before = λ meant m. (end meant m).0; here = λ meant m. (end meant m).1 }

@@ -1,7 +1,7 @@
 use Rattle.std.proofs.Common.{◌+◌, ℕ, cond, ap, arith}
 use Rattle.std.proofs.lemmas.Bool.{eq-eqb, ne_eqb}
 use Rattle.chained.proofs.Held.{held, shares_fit}
-use Rattle.chained.proofs.Steps.{sum_starts, sum_goes, sum_fits, sum_ends, along_below, along_falls}
+use Rattle.chained.proofs.Steps.{sum_starts, sum_goes, sum_fits, along_below, along_falls}
 use Rattle.chained.proofs.chained.calls.ChainedBook.shares_at.Goals as goal
 
 pub loop-here-init : goal.loop-here-init
@@ -46,8 +46,3 @@ loop-here-preserved g c =
     let elsewhere = ap (λ t. cond {A = ℕ} t o.shares 0) (ne_eqb o.price c.args.price c.if-record-price.false) in
     sum_goes c.args.self.now.chains.records.now c.args.price c.loop-here.sum c.loop-here.here c.loop-here.invariant
     c.loop-here-test.true c.at-record.result c.at-record.ensures c.loop-here.sum (omega (arith, elsewhere))
-
-pub returns : goal.returns
-returns g c =
-    sum_ends c.args.self.now.chains.records.now c.args.price c.loop-here.sum c.loop-here.here
-    c.loop-here.invariant c.loop-here-test.false
