@@ -88,10 +88,7 @@ impl Draws {
         if kind % 2 == 0 {
             return Operation::Remove(self.below(last + 1));
         }
-        let open = match model.front() {
-            Some(order) => order.shares,
-            None => 0,
-        };
+        let open = model.front().map_or(0, |order| order.shares);
         Operation::Take(self.amount(open))
     }
 }

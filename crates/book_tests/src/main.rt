@@ -1,7 +1,6 @@
 // Drives each kind of book beside a plain model, on both sides, and compares every answer.
 #![tactic(auto)]
 
-mod answer;
 mod draws;
 mod model;
 mod operation;
@@ -10,10 +9,9 @@ mod title;
 mod trial;
 
 use books::packed::Packed;
-use chained::chained::{Task, lend};
+use chained::chained::lend;
 use chained::record::Record;
 use rules::side::{Asks, Bids, Side};
-use rules::terms::SideName;
 use std::io;
 use title::{Kind, Title};
 use trial::{Failure, Outcome, Trial};
@@ -31,58 +29,49 @@ fn report(rt: &HostRuntime, title: Title, outcome: Outcome) -> io::Result<()> {
     }
 }
 
-fn try_packed<S: Side>(rt: &HostRuntime, side: SideName) -> io::Result<()> {
-    for seed in 1..3 {
-        let mut book: Packed<S> = Packed::new();
-        let trial = Trial::new(rt.alloc(), side, 32, seed);
-        let title = Title {
-            side,
-            kind: Kind::Packed,
-            seed,
-        };
-        report(rt, title, trial.run(&mut book))?;
-    }
-    Ok(())
-}
-
-// A second book finds the records as the first one has left them.
-fn try_chained<S: Side>(
+// Two trials, each with a seed of its own, which are run on books of that kind.
+fn try_kind<S: Side, F: FnMut(Trial) -> Outcome>(
     rt: &HostRuntime,
-    side: SideName,
-    records: usize,
+    kind: Kind,
     places: usize,
+    mut run: F,
 ) -> io::Result<()>
-where
-    Trial: Task<S, Answer = Outcome>,
+    requires { F.IsAlwaysCallable run }
 {
-    let mut lent = vec![in rt.alloc(); Record::BLANK; records]?;
+    let side = S::name();
     for seed in 1..3 {
         let trial = Trial::new(rt.alloc(), side, places, seed);
-        let outcome = lend::<S, Trial>(lent.as_mut_slice(), trial);
-        let title = Title {
-            side,
-            kind: Kind::Chained(records),
-            seed,
-        };
-        report(rt, title, outcome)?;
+        report(rt, Title { side, kind, seed }, run(trial))?;
     }
     Ok(())
 }
 
-fn try_side<S: Side>(rt: &HostRuntime, side: SideName) -> io::Result<()>
-where
-    Trial: Task<S, Answer = Outcome>,
-{
-    try_packed::<S>(rt, side)?;
-    try_chained::<S>(rt, side, 33, 32)?;
-    try_chained::<S>(rt, side, 2, 1)?;
-    try_chained::<S>(rt, side, 1, 0)?;
-    try_chained::<S>(rt, side, 0, 0)?;
-    try_chained::<S>(rt, side, 5000, 4096)
+fn try_packed<S: Side>(rt: &HostRuntime) -> io::Result<()> {
+    try_kind::<S, _>(rt, Kind::Packed, 32, |trial| {
+        let mut book: Packed<S> = Packed::new();
+        trial.run(&mut book)
+    })
+}
+
+// The second book finds the records as the first one has left them.
+fn try_chained<S: Side>(rt: &HostRuntime, records: usize, places: usize) -> io::Result<()> {
+    let mut lent = vec![in rt.alloc(); Record::BLANK; records]?;
+    try_kind::<S, _>(rt, Kind::Chained(records), places, |trial| {
+        lend::<S, Trial>(lent.as_mut_slice(), trial)
+    })
+}
+
+fn try_side<S: Side>(rt: &HostRuntime) -> io::Result<()> {
+    try_packed::<S>(rt)?;
+    try_chained::<S>(rt, 33, 32)?;
+    try_chained::<S>(rt, 2, 1)?;
+    try_chained::<S>(rt, 1, 0)?;
+    try_chained::<S>(rt, 0, 0)?;
+    try_chained::<S>(rt, 5000, 4096)
 }
 
 fn main(rt: HostRuntime) -> io::Result<()> {
-    try_side::<Bids>(&rt, SideName::Bid)?;
-    try_side::<Asks>(&rt, SideName::Ask)?;
+    try_side::<Bids>(&rt)?;
+    try_side::<Asks>(&rt)?;
     println!(rt; "all agree")
 }

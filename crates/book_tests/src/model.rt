@@ -1,9 +1,9 @@
 // A book in its plainest form, which shares no code with the others: a list that each call scans.
-ghost use Rattle.std.specs.Prelude.{◌≤◌, vec_len};
+ghost use Rattle.std.specs.Prelude.{◌≤◌, IfOk, vec_len};
 
-use crate::answer::Answer;
-use crate::operation::Operation;
+use crate::operation::{Answer, Operation};
 use books::standing::Standing;
+use rules::refusal::Refusal;
 use rules::terms::SideName;
 use std::alloc::{AllocError, Global};
 
@@ -33,26 +33,22 @@ impl Model {
     }
 
     pub fn front(&self) -> Option<Standing> {
-        self.orders.get(0).copied()
+        self.orders.first().copied()
     }
 
     pub fn find(&self, number: u32) -> Option<Standing> {
-        for order in self.orders.iter() {
-            if order.number == number {
-                return Some(*order);
-            }
-        }
-        None
+        self.orders
+            .iter()
+            .find(|order| order.number == number)
+            .copied()
     }
 
     pub fn shares_at(&self, price: u32) -> u64 {
-        let mut sum = 0u64;
-        for order in self.orders.iter() {
-            if order.price == price {
-                sum = sum.wrapping_add(u64::from(order.shares));
-            }
-        }
-        sum
+        self.orders
+            .iter()
+            .filter(|order| order.price == price)
+            .map(|order| u64::from(order.shares))
+            .fold(0, u64::wrapping_add)
     }
 
     pub fn apply(&mut self, operation: Operation) -> Result<Answer, AllocError> {
@@ -62,66 +58,68 @@ impl Model {
             Operation::Remove(number) => Ok(self.remove(number)),
             Operation::Empty => {
                 self.orders.clear();
-                Ok(Answer::Done)
+                Ok(Ok(None))
             }
         }
     }
 
-    // Where a new order at that price goes: before the first order with a worse price.
-    fn place_for(&self, price: u32) -> usize
+    // Before the first order with a worse price.
+    fn behind_better(&self, price: u32) -> usize
         ensures { result ≤ vec_len self.now.orders }
     {
-        for index in 0..self.orders.len() {
-            let standing = self.orders[index].price;
-            let is_worse = match self.side {
-                SideName::Bid => standing < price,
-                SideName::Ask => standing > price,
-            };
-            if is_worse {
-                return index;
-            }
+        self.orders
+            .iter()
+            .position(|standing| match self.side {
+                SideName::Bid => standing.price < price,
+                SideName::Ask => standing.price > price,
+            })
+            .unwrap_or(self.orders.len())
+    }
+
+    // Where a new order goes, or why it is refused.
+    fn place_for(&self, order: Standing) -> Result<usize, Refusal>
+        ensures { IfOk result (λ place. place ≤ vec_len self.now.orders) }
+    {
+        if order.number == 0 || order.price == 0 || order.shares == 0 || order.shares > 10_000_000 {
+            return Err(Refusal::BadOrder);
         }
-        self.orders.len()
+        if self.find(order.number).is_some() {
+            return Err(Refusal::BadOrder);
+        }
+        if self.orders.len() >= self.places {
+            return Err(Refusal::BookFull);
+        }
+        Ok(self.behind_better(order.price))
     }
 
     fn add(&mut self, order: Standing) -> Result<Answer, AllocError> {
-        if order.number == 0 || order.price == 0 || order.shares == 0 || order.shares > 10_000_000 {
-            return Ok(Answer::Refused(5));
+        match self.place_for(order) {
+            Ok(place) => {
+                self.orders.insert(place, order)?;
+                Ok(Ok(None))
+            }
+            Err(refusal) => Ok(Err(refusal)),
         }
-        if self.find(order.number).is_some() {
-            return Ok(Answer::Refused(5));
-        }
-        if self.orders.len() >= self.places {
-            return Ok(Answer::Refused(6));
-        }
-        let index = self.place_for(order.price);
-        self.orders.insert(index, order)?;
-        Ok(Answer::Done)
     }
 
     fn take(&mut self, shares: u32) -> Answer {
-        if self.orders.len() == 0 {
-            return Answer::Refused(7);
+        let front = self.orders.first_mut().ok_or(Refusal::BadTake)?;
+        if shares == 0 || shares > front.shares {
+            return Err(Refusal::BadTake);
         }
-        let open = self.orders[0].shares;
-        if shares == 0 || shares > open {
-            return Answer::Refused(7);
-        }
-        if shares == open {
+        front.shares -= shares;
+        if front.shares == 0 {
             self.orders.remove(0);
-        } else {
-            self.orders[0].shares = open - shares;
         }
-        Answer::Done
+        Ok(None)
     }
 
     fn remove(&mut self, number: u32) -> Answer {
-        for index in 0..self.orders.len() {
-            if self.orders[index].number == number {
-                let gone = self.orders.remove(index);
-                return Answer::Gone(gone.shares);
-            }
-        }
-        Answer::Refused(8)
+        let index = self
+            .orders
+            .iter()
+            .position(|order| order.number == number)
+            .ok_or(Refusal::NotStanding)?;
+        Ok(Some(self.orders.remove(index).shares))
     }
 }

@@ -1,8 +1,11 @@
-// The calls that alter a book, and the names of all its functions.
-use crate::answer::Answer;
+// The calls that alter a book, what they answer, and the names of all its functions.
 use books::book::Book;
 use books::standing::Standing;
+use rules::refusal::Refusal;
 use std::fmt;
+
+// In one form for all of them: the open shares of an order that went, or nothing, or a refusal.
+pub type Answer = Result<Option<u32>, Refusal>;
 
 #[derive(Clone, Copy)]
 pub enum Operation {
@@ -24,12 +27,12 @@ impl Operation {
 
     pub fn apply<B: Book>(self, book: &mut B) -> Answer {
         match self {
-            Operation::Add(order) => Answer::of_done(book.add(order)),
-            Operation::Take(shares) => Answer::of_done(book.take(shares)),
-            Operation::Remove(number) => Answer::of_gone(book.remove(number)),
+            Operation::Add(order) => book.add(order).map(|()| None),
+            Operation::Take(shares) => book.take(shares).map(|()| None),
+            Operation::Remove(number) => book.remove(number).map(Some),
             Operation::Empty => {
                 book.empty();
-                Answer::Done
+                Ok(None)
             }
         }
     }

@@ -1,8 +1,9 @@
 // How many operations were accepted, and how many met each refusal.
-use crate::answer::Answer;
+use crate::operation::Answer;
+use rules::refusal::Refusal;
 use std::fmt;
 
-#[derive(Clone, Copy)]
+#[derive(Clone, Copy, Default)]
 pub struct Tally {
     accepted: u32,
     bad_orders: u32,
@@ -12,22 +13,12 @@ pub struct Tally {
 }
 
 impl Tally {
-    pub fn new() -> Tally {
-        Tally {
-            accepted: 0,
-            bad_orders: 0,
-            book_full: 0,
-            bad_takes: 0,
-            not_standing: 0,
-        }
-    }
-
     pub fn note(&mut self, answer: Answer) {
         let count = match answer {
-            Answer::Refused(5) => &mut self.bad_orders,
-            Answer::Refused(6) => &mut self.book_full,
-            Answer::Refused(7) => &mut self.bad_takes,
-            Answer::Refused(8) => &mut self.not_standing,
+            Err(Refusal::BadOrder) => &mut self.bad_orders,
+            Err(Refusal::BookFull) => &mut self.book_full,
+            Err(Refusal::BadTake) => &mut self.bad_takes,
+            Err(Refusal::NotStanding) => &mut self.not_standing,
             _ => &mut self.accepted,
         };
         *count = count.saturating_add(1);

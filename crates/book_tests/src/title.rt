@@ -2,6 +2,7 @@
 use rules::terms::SideName;
 use std::fmt;
 
+// What kind of book a run drives. A rehearsal names the same two kinds: neither program is a library of the other.
 #[derive(Clone, Copy)]
 pub enum Kind {
     Packed,

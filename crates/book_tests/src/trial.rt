@@ -1,5 +1,4 @@
 // A book and the model go through the same operations, and every answer is compared.
-use crate::answer::Answer;
 use crate::draws::{Draws, last_number};
 use crate::model::Model;
 use crate::operation::{Function, Operation};
@@ -7,7 +6,7 @@ use crate::tally::Tally;
 use books::book::Book;
 use books::standing::Standing;
 use chained::chained::{Chained, Task};
-use rules::side::{Asks, Bids};
+use rules::side::Side;
 use rules::terms::SideName;
 use std::alloc::{AllocError, Global};
 
@@ -43,23 +42,15 @@ pub struct Outcome {
     pub result: Result<(), Failure>,
 }
 
+// Book and model stand side by side wherever they are compared: that is what a trial does.
+
 fn same_orders<B: Book>(book: &B, model: &Model, last: u32) -> bool {
-    for number in 0..last {
-        if book.find(number) != model.find(number) {
-            return false;
-        }
-    }
-    true
+    (0..last).all(|number| book.find(number) == model.find(number))
 }
 
 // Prices 1 to 6 are drawn.
 fn same_shares<B: Book>(book: &B, model: &Model) -> bool {
-    for price in 0..8 {
-        if book.shares_at(price) != model.shares_at(price) {
-            return false;
-        }
-    }
-    true
+    (0..8).all(|price| book.shares_at(price) == model.shares_at(price))
 }
 
 // The questions that need no walk through the book.
@@ -93,7 +84,7 @@ impl Trial {
         Trial {
             model: Model::new(heap, side, places),
             draws: Draws::new(seed),
-            tally: Tally::new(),
+            tally: Tally::default(),
         }
     }
 
@@ -134,9 +125,9 @@ impl Trial {
 
     // Takes all places of the largest book, and asks for one more.
     fn fill<B: Book>(&mut self, book: &mut B) -> Result<(), Failure> {
-        for before in 0..4097 {
+        for number in 1..=4097 {
             let order = Standing {
-                number: before + 1,
+                number,
                 price: 3,
                 shares: 10_000_000,
             };
@@ -194,19 +185,10 @@ impl Trial {
     }
 }
 
-// Not once for every side: the check covers a chained book in generic code only at a given side.
-impl Task<Bids> for Trial {
+impl<S: Side> Task<S> for Trial {
     type Answer = Outcome;
 
-    fn run(self, book: &mut Chained<'_, Bids>) -> Outcome {
-        Trial::run(self, book)
-    }
-}
-
-impl Task<Asks> for Trial {
-    type Answer = Outcome;
-
-    fn run(self, book: &mut Chained<'_, Asks>) -> Outcome {
+    fn run(self, book: &mut Chained<'_, S>) -> Outcome {
         Trial::run(self, book)
     }
 }

@@ -9,7 +9,7 @@ use Rattle.books.specs.Histories.{Change, add, take, remove, after, brought, Bri
 use Rattle.books.specs.Lists.{Outcome, unless, find, stands, sound, put, added, less, reduced, taken, without, removed, removed_found}
 use Rattle.books.specs.declared.standing.Standing.{Standing}
 use Rattle.books.proofs.Outcomes.{added_unfit, added_full, added_fit}
-use Rattle.books.specs.Ranks.{not_before}
+use Rattle.books.proofs.Ranks.{not_before}
 
 -- Lists where P holds of each order, or R of each pair
 

@@ -2,8 +2,4 @@ pub mod Lists
 pub mod Arranging
 pub mod Packing
 pub mod Histories
-pub mod ArrangingLemmas
-pub mod Tallies
-pub mod Spots
-pub mod Sounds
-pub mod Ranks
+pub mod Laws

@@ -2,6 +2,7 @@
 #![tactic(auto)]
 
 pub mod book;
+pub mod lent;
 pub mod packed;
 pub mod priority;
 pub mod standing;

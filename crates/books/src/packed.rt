@@ -1,10 +1,8 @@
 // The packed book: 32 places of its own, and no memory but those.
 ghost use Rattle.std.specs.Prelude.{◌≡◌, ◌≤◌, true, [], length};
 ghost use Rattle.books.specs.Arranging.{all_sound, Distinct, arranged};
-ghost use Rattle.books.specs.Packing.{held};
 ghost use Rattle.std.proofs.Common.{arith};
-ghost use Rattle.books.specs.ArrangingLemmas.{length_arranged, sound_arrange};
-ghost use Rattle.books.specs.Spots.{length_held};
+ghost use Rattle.books.specs.Laws.{length_arranged, sound_arrange};
 
 use crate::book::Book;
 use crate::standing::Standing;
@@ -20,15 +18,14 @@ use self::arrivals::{Arrivals, PLACES};
 pub struct Packed<S> {
     arrivals: Arrivals,
     side: PhantomData<S>,
-    ghost size: { length arrivals.spots ≡ 32 },
-    ghost within: { arrivals.count ≤ 32 },
-    ghost sound: { all_sound (held arrivals) ≡ true },
-    ghost distinct: { Distinct (held arrivals) },
+    ghost within: { length arrivals ≤ 32 },
+    ghost sound: { all_sound arrivals ≡ true },
+    ghost distinct: { Distinct arrivals },
 }
 
 impl<S: Side> Packed<S> {
     pub fn new() -> Packed<S>
-        ensures { arranged S.Side.rule (held result.arrivals) ≡ [] }
+        ensures { arranged S.Side.rule result.arrivals ≡ [] }
     {
         Packed {
             arrivals: Arrivals::new(),
@@ -40,16 +37,15 @@ impl<S: Side> Packed<S> {
 impl<S: Side> Book for Packed<S> {
     type Side = S;
 
-    ghost orders = { λ book. arranged S.Side.rule (held book.arrivals) };
+    ghost orders = { λ book. arranged S.Side.rule book.arrivals };
 
     ghost room = { λ _. 32 };
 
-    ghost kept = { λ b.
-        let v = b.arrivals in (
-          omega arith,
-          omega (arith, length_arranged S.Side.rule (held v), length_held v b.size b.within),
-          sound_arrange S.Side.rule (held v) [] b.sound tt,
-        ) };
+    ghost kept = { λ b. (
+      omega arith,
+      omega (arith, length_arranged S.Side.rule b.arrivals, b.within),
+      sound_arrange S.Side.rule b.arrivals [] b.sound tt,
+    ) };
 
     fn empty(&mut self) {
         self.arrivals.clear();
@@ -64,17 +60,15 @@ impl<S: Side> Book for Packed<S> {
     }
 
     fn front(&self) -> Option<Standing> {
-        match self.arrivals.front_index::<S>() {
-            Some(index) => Some(self.arrivals.at(index)),
-            None => None,
-        }
+        self.arrivals
+            .front_index::<S>()
+            .map(|index| self.arrivals.at(index))
     }
 
     fn find(&self, number: u32) -> Option<Standing> {
-        match self.arrivals.index_of(number) {
-            Some(index) => Some(self.arrivals.at(index)),
-            None => None,
-        }
+        self.arrivals
+            .index_of(number)
+            .map(|index| self.arrivals.at(index))
     }
 
     fn shares_at(&self, price: u32) -> u64 {
@@ -82,25 +76,15 @@ impl<S: Side> Book for Packed<S> {
     }
 
     fn add(&mut self, order: Standing) -> Result<(), Refusal> {
-        if !order.is_sound() || self.arrivals.index_of(order.number).is_some() {
-            return Err(Refusal::BadOrder);
-        }
-        if self.arrivals.is_full() {
-            return Err(Refusal::BookFull);
-        }
+        self.check_add(order)?;
         self.arrivals.push(order);
         Ok(())
     }
 
     fn take(&mut self, shares: u32) -> Result<(), Refusal> {
-        let Some(index) = self.arrivals.front_index::<S>() else {
-            return Err(Refusal::BadTake);
-        };
-        let left = self.arrivals.at(index).shares;
-        if shares < 1 || shares > left {
-            return Err(Refusal::BadTake);
-        }
-        if shares == left {
+        let order = self.check_take(shares)?;
+        let index = self.arrivals.front_index::<S>().unwrap();
+        if shares == order.shares {
             self.arrivals.close_up(index);
         } else {
             self.arrivals.reduce(index, shares);
@@ -109,9 +93,7 @@ impl<S: Side> Book for Packed<S> {
     }
 
     fn remove(&mut self, number: u32) -> Result<u32, Refusal> {
-        let Some(index) = self.arrivals.index_of(number) else {
-            return Err(Refusal::NotStanding);
-        };
+        let index = self.arrivals.index_of(number).ok_or(Refusal::NotStanding)?;
         Ok(self.arrivals.close_up(index).shares)
     }
 }

@@ -2,7 +2,9 @@
 ghost use Rattle.std.specs.Prelude.{◌≡◌};
 ghost use Rattle.books.specs.Lists.{sound};
 
-#[derive(Clone, Copy, PartialEq)]
+use rules::sheet::MOST_SHARES;
+
+#[derive(Clone, Copy, PartialEq, Eq)]
 pub struct Standing {
     pub number: u32,
     pub price: u32,
@@ -11,10 +13,17 @@ pub struct Standing {
 }
 
 impl Standing {
+    // What stands in a place where there is no order.
+    pub const BLANK: Standing = Standing {
+        number: 0,
+        price: 0,
+        shares: 0,
+    };
+
     // Whether a book can take the order: number, price and shares are there, and not too many shares.
     pub fn is_sound(&self) -> bool
         ensures { result ≡ sound self.now }
     {
-        self.number >= 1 && self.price >= 1 && self.shares >= 1 && self.shares <= 10_000_000
+        self.number >= 1 && self.price >= 1 && (1..=MOST_SHARES).contains(&self.shares)
     }
 }

@@ -3,7 +3,7 @@ use Rattle.std.specs.Prelude.{◌≡◌, ℕ, Bool, true, false, not, ◌&&◌, 
 use Rattle.std.proofs.Common.{lit≤}
 use Rattle.books.specs.declared.standing.Standing.{Standing}
 use Rattle.market.specs.Calls.{State, Done, fresh, entered, cancelled, noticed}
-use Rattle.market.specs.Sets.{Rooms}
+use Rattle.matching.specs.Sets.{Rooms}
 use Rattle.market.specs.declared.answers.Cancelled.{Cancelled}
 use Rattle.market.specs.declared.answers.Entered.{Entered}
 use Rattle.matching.specs.Looking.{Books}

@@ -1,5 +1,5 @@
-// What a caller does with a form. The must-fail edits beside this crate are callers that the check refuses:
-// one that uses a form twice, and ones that offer bare numbers or a literal as a form.
+// What a caller does with a form. `checks/refused` has callers that the compiler refuses: one that uses a form twice, one
+// that keeps a copy, and ones that offer bare numbers or a literal as a form.
 ghost use Rattle.std.specs.Prelude.{◌≡◌, not};
 ghost use Rattle.cases.specs.Callers.{MovedAndBack, Sized};
 ghost use Rattle.rules.specs.Forms.{large};
@@ -14,10 +14,8 @@ pub fn moved_and_back(form: Form, limit: u32) -> Result<Form, HandedBack>
     ensures { MovedAndBack form limit result }
 {
     let terms = form.terms();
-    match form.restate(limit, terms.shares) {
-        Ok(moved) => moved.restate(terms.limit, terms.shares),
-        Err(back) => Err(back),
-    }
+    let moved = form.restate(limit, terms.shares)?;
+    moved.restate(terms.limit, terms.shares)
 }
 
 fn needs_better_price(form: &Form) -> bool

@@ -15,25 +15,21 @@ const SALE: Terms = Terms {
     directed: true,
 };
 
+fn refused<E: Drop>(_error: E) -> Fail {
+    Fail::new("refused")
+}
+
 fn sheet() -> Result<DaySheet, Fail> {
-    match DaySheet::new(4000, 1000) {
-        Ok(sheet) => Ok(sheet),
-        Err(_) => Err(Fail::new("refused")),
-    }
+    DaySheet::new(4000, 1000).map_err(refused)
 }
 
 fn form() -> Result<Form, Fail> {
-    match Form::write(&sheet()?, SALE) {
-        Ok(form) => Ok(form),
-        Err(_) => Err(Fail::new("refused")),
-    }
+    Form::write(&sheet()?, SALE).map_err(refused)
 }
 
 #[test]
 fn restating_keeps_side_kind_and_marks(rt: HostRuntime) -> Result<(), Fail> {
-    let Ok(form) = form()?.restate(4008, 5100) else {
-        return Err(Fail::new("refused"));
-    };
+    let form = form()?.restate(4008, 5100).map_err(refused)?;
     assert!(rt;
         form.terms()
             == Terms {
@@ -64,12 +60,8 @@ fn refused_restating_hands_the_form_back(rt: HostRuntime) -> Result<(), Fail> {
 
 #[test]
 fn restating_to_the_same_terms_is_taken(rt: HostRuntime) -> Result<(), Fail> {
-    let Ok(form) = form()?.restate(SALE.limit, SALE.shares) else {
-        return Err(Fail::new("refused"));
-    };
-    let Ok(form) = moved_and_back(form, 8) else {
-        return Err(Fail::new("refused"));
-    };
+    let form = form()?.restate(SALE.limit, SALE.shares).map_err(refused)?;
+    let form = moved_and_back(form, 8).map_err(refused)?;
     assert!(rt; form.terms() == SALE);
     Ok(())
 }

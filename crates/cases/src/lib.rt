@@ -17,7 +17,7 @@ pub fn worked_cases() -> usize
     20
 }
 
-// Every scenario comes out as it says, call after call. Answers how many there are.
+// Every scenario comes out as it says, call after call. Answers how many there are: another table, and another theorem.
 pub fn worked_scenarios() -> usize
     ensures hold { all_come_out scenarios ≡ true }
     ensures count { result ≡ length scenarios }

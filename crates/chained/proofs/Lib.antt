@@ -4,6 +4,5 @@ pub mod Formed
 pub mod Held
 pub mod Meant
 pub mod Moves
-pub mod Outcomes
 pub mod Rest
 pub mod Steps

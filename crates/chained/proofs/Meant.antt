@@ -1,11 +1,11 @@
 -- What the walks and moves along indices mean for the orders there.
-use Rattle.std.proofs.Common.{◌≡◌, ℕ, ◌<◌, Bool, true, false, cond, eqb, List, [], ◌∷◌, map, Some, None, refl, ap, arith}
+use Rattle.std.proofs.Common.{◌≡◌, ℕ, ◌<◌, Bool, true, false, cond, not, eqb, List, [], ◌∷◌, map, is_some, IfSome, Option, Some, None, refl, ap, arith}
 use Rattle.std.proofs.lemmas.Bool.{cond_both, and_parts, and_from}
 use Rattle.rules.specs.Sides.{Rule}
 use Rattle.books.specs.Lists.{find, put, without, sound}
 use Rattle.books.specs.declared.standing.Standing.{Standing}
 use Rattle.chained.specs.Links.{times, first}
-use Rattle.chained.specs.Records.{all_sound}
+use Rattle.books.specs.Arranging.{all_sound}
 use Rattle.chained.proofs.Chain.{put_in, cut_out, times_here, times_tail}
 
 -- equal along the list
@@ -84,3 +84,11 @@ all_without number (x ∷ xs) all =
     let P : List Standing → Type 0 = λ ys. all_sound ys ≡ true in
     cond_both (eqb x.number number) xs (x ∷ without number xs) P (λ _. two.1)
     (λ _. and_from (sound x) (all_sound (without number xs)) two.0 (all_without number xs two.1))
+
+-- An option made by a test
+
+pub some_unless : (r : Option Standing) (none : Bool) (o : Standing) → is_some r ≡ not none → IfSome r (λ x. x ≡ o) → r ≡ cond none None (Some o)
+some_unless None true o e h = refl
+some_unless None false o e h = cc
+some_unless (Some x) true o e h = cc
+some_unless (Some x) false o e h = ap Some h

@@ -20,6 +20,9 @@ pub record Along (rs : List Record) (here : ℕ) : Type 0 where
 pub along_starts : (rs : List Record) → Apart rs → Whole rs → Along rs (next_of rs 0)
 along_starts rs apart whole = record { chain = line_chain rs whole; within = λ k h. inside rs apart k (omega arith) }
 
+pub along_first : (rs : List Record) → Apart rs → Whole rs → (here : ℕ) → here ≡ next_of rs 0 → Along rs here
+along_first rs apart whole here e = subst (Along rs) (sym e) (along_starts rs apart whole)
+
 module _ (rs : List Record) (here : ℕ) (a : Along rs here) (some : here ≢ 0) where
   pub from_here : from rs here ≡ here ∷ from rs (next_of rs here)
   from_here = (links_step (length rs) (next_of rs) here a.chain some).0
@@ -35,6 +38,9 @@ module _ (rs : List Record) (here : ℕ) (a : Along rs here) (some : here ≢ 0)
     chain = (links_step (length rs) (next_of rs) here a.chain some).1;
     within = λ k h. a.within k (omega (arith, times_from k, times_tail k here (from rs (next_of rs here))));
   }
+
+  pub along_next : (r : Record) → r ≡ at rs here → Along rs r.next
+  along_next r is = subst (λ k. Along rs k) (ap (λ v. v.next) (sym is)) along_goes
 
   pub along_falls : (r : Record) → r ≡ at rs here → length (from rs r.next) < length (from rs here)
   along_falls r is = omega (arith, ap length from_here, ap (λ v. length (from rs v.next)) is)
@@ -108,11 +114,8 @@ module _ (rs : List Record) (price sum here : ℕ) (w : Summing rs price sum her
         ap (λ ys. shares_at price (map (order_of rs) ys)) (from_here rs here w.along some)
         ∙ ap (λ v. cond (eqb v.order.price price) v.order.shares 0 + sum_from rs price v.next) (sym is)
 
-    goes : Along rs r.next
-    goes = subst (λ k. Along rs k) (ap (λ v. v.next) (sym is)) (along_goes rs here w.along some)
+    pub sum_goes : (next : ℕ) → next ≡ sum + cond (eqb r.order.price price) r.order.shares 0 → Summing rs price next r.next
+    sum_goes next e = record { along = along_next rs here w.along some r is; adds = omega (arith, w.adds, step, e) }
 
-    pub sum_goes : (n : ℕ) → n ≡ cond (eqb r.order.price price) r.order.shares 0 → Summing rs price (sum + n) r.next
-    sum_goes n e = record { along = goes; adds = omega (arith, w.adds, step) }
-
-    pub sum_fits : (n : ℕ) → n ≡ cond (eqb r.order.price price) r.order.shares 0 → sum + n ≤ shares_at price (orders_in rs)
-    sum_fits n e = omega (arith, w.adds, step)
+    pub sum_fits : sum + cond (eqb r.order.price price) r.order.shares 0 ≤ shares_at price (orders_in rs)
+    sum_fits = omega (arith, w.adds, step)

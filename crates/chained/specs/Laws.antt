@@ -4,7 +4,8 @@ use Rattle.std.proofs.lemmas.List.{length-map}
 use Rattle.std.proofs.lemmas.Bool.{and_parts}
 use Rattle.books.specs.Lists.{Kept, AllSound, sound}
 use Rattle.books.specs.declared.standing.Standing.{Standing}
-use Rattle.chained.specs.Records.{most_records, order_of, line, orders_in, room_in, Apart, Whole, all_sound}
+use Rattle.books.specs.Arranging.{all_sound}
+use Rattle.chained.specs.Records.{most_records, order_of, line, orders_in, room_in, Apart, Whole}
 use Rattle.chained.specs.declared.record.Record.{Record}
 
 -- in the order of the book's ghost fields

@@ -1,6 +1,5 @@
 -- What records mean: the orders along one chain from the anchor, and the free records along another.
-use Rattle.std.specs.Prelude.{◌≡◌, ℕ, ◌+◌, ◌-◌, ◌<◌, ◌≤◌, Bool, true, cond, ◌&&◌, List, [], ◌∷◌, map, length, set, nat_lt, slice_index_or, slice_set}
-use Rattle.books.specs.Lists.{sound}
+use Rattle.std.specs.Prelude.{◌≡◌, ℕ, ◌+◌, ◌-◌, ◌<◌, ◌≤◌, Bool, cond, List, map, length, set, nat_lt, slice_index_or, slice_set}
 use Rattle.books.specs.declared.standing.Standing.{Standing}
 use Rattle.chained.specs.Links.{links, times, first, stop}
 use Rattle.chained.specs.declared.record.Record.{Record}
@@ -45,11 +44,11 @@ Apart records = (k : ℕ) → times k (line records) + times k (idle records) �
 abbrev pub Whole : List Record → Type 0
 Whole records = length (line records) + length (idle records) ≡ room_in records
 
-abbrev pub all_sound : List Standing → Bool
-all_sound [] = true
-all_sound (o ∷ os) = sound o && all_sound os
-
 -- Walks
+
+-- a test that answers what is meant of each order
+abbrev pub Means : (answers : Standing → Bool → Type 0) → (meant : Standing → Bool) → Type 0
+Means answers meant = (order : Standing) (answer : Bool) → answers order answer → answer ≡ meant order
 
 abbrev pub passing : (Standing → Bool) → List Record → ℕ → Bool
 passing passes records k = passes (order_of records k)

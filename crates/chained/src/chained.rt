@@ -1,6 +1,7 @@
 // The book in lent records: the chains with what they must keep.
 ghost use Rattle.std.specs.Prelude.{◌≡◌, ◌≤◌, true, length};
-ghost use Rattle.chained.specs.Records.{most_records, orders_in, Apart, Whole, all_sound};
+ghost use Rattle.books.specs.Arranging.{all_sound};
+ghost use Rattle.chained.specs.Records.{most_records, orders_in, Apart, Whole};
 
 use crate::chains::Chains;
 use rules::side::Side;

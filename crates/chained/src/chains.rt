@@ -1,10 +1,10 @@
 // The links of the records, with no claim that they are well-formed: whoever holds the chains keeps that.
-ghost use Rattle.std.specs.Prelude.{◌≡◌, ◌+◌, ◌^◌, ◌<◌, ◌≤◌, length, if◌then◌else◌, nat_eq};
-ghost use Rattle.books.specs.Lists.{most_places, front_of, find, shares_at, reduced};
-ghost use Rattle.chained.specs.Records.{most_records, at, next_of, free_of, order_of, orders_in, linked, unlinked, with_order, Apart, Whole, Cleared, found, before_found};
+// Links are indices, since the records are the caller's: a next index leads from record to record, and zero ends the chain.
+ghost use Rattle.std.specs.Prelude.{◌≡◌, ◌+◌, ◌<◌, ◌≤◌, ◌≢◌, ◌==◌, cond, length, Some, None};
+ghost use Rattle.books.specs.Lists.{most_places, reduced};
+ghost use Rattle.chained.specs.Records.{most_records, at, next_of, free_of, order_of, linked, unlinked, with_order, Cleared};
 
 use crate::record::Record;
-use crate::walk::{Numbered, Test};
 use books::standing::Standing;
 
 #[derive(Drop)]
@@ -14,7 +14,8 @@ pub(crate) struct Chains<'a> {
     pub(crate) count: usize,
 }
 
-// A record in a chain, and the record before it: 0 is the anchor before the first, and no record after the last.
+// A record in a chain, and the record before it: 0 is the anchor before the first, and no record after the last,
+// since zero ends a chain.
 #[derive(Clone, Copy)]
 pub(crate) struct Spot {
     pub(crate) before: u16,
@@ -26,11 +27,7 @@ impl Chains<'_> {
     pub(crate) fn first(&self) -> u16
         ensures { result ≡ next_of self.now.records.now 0 }
     {
-        if self.records.len() == 0 {
-            return 0;
-        }
-        let anchor = self.records[0];
-        anchor.next
+        self.records.first().map_or(0, |anchor| anchor.next)
     }
 
     pub(crate) fn at(&self, here: u16) -> Record
@@ -38,6 +35,14 @@ impl Chains<'_> {
         ensures { result ≡ at self.now.records.now here }
     {
         self.records[here as usize]
+    }
+
+    // The order in a record, and none where the chain has ended.
+    pub(crate) fn order_at(&self, here: u16) -> Option<Standing>
+        requires { here ≢ 0 → here < length self.now.records.now }
+        ensures { result ≡ cond (here == 0) None (Some (order_of self.now.records.now here)) }
+    {
+        (here != 0).then(|| self.records[here as usize].order)
     }
 
     // Puts the order into the first free record, behind the one before it.
@@ -97,87 +102,11 @@ impl Chains<'_> {
         ensures count { self.new.count ≡ 0 }
     {
         let end = self.records.len();
-        for k in 0..end {
+        for (k, record) in self.records.iter_mut().enumerate() {
             let after = k + 1;
-            self.records[k].free = if after < end { after as u16 } else { 0 };
-        }
-        if end > 0 {
-            self.records[0].next = 0;
+            record.next = 0;
+            record.free = if after < end { after as u16 } else { 0 };
         }
         self.count = 0;
-    }
-
-    // The spot of the first order that passes the test, or behind the last order.
-    pub(crate) fn seek<T: Test>(&self, test: &T) -> Spot
-        requires apart { Apart self.now.records.now }
-        requires whole { Whole self.now.records.now }
-        ensures before { result.before ≡ before_found (T.Test.meant test.now) self.now.records.now }
-        ensures here { result.here ≡ found (T.Test.meant test.now) self.now.records.now }
-    {
-        let mut before = 0;
-        let mut here = self.first();
-        while here != 0 {
-            let record = self.at(here);
-            if test.passes(record.order) {
-                return Spot { before, here };
-            }
-            before = here;
-            here = record.next;
-        }
-        Spot { before, here }
-    }
-
-    pub(crate) fn front(&self) -> Option<Standing>
-        requires apart { Apart self.now.records.now }
-        requires whole { Whole self.now.records.now }
-        ensures { result ≡ front_of (orders_in self.now.records.now) }
-    {
-        let here = self.first();
-        if here == 0 {
-            None
-        } else {
-            Some(self.at(here).order)
-        }
-    }
-
-    pub(crate) fn find(&self, number: u32) -> Option<Standing>
-        requires apart { Apart self.now.records.now }
-        requires whole { Whole self.now.records.now }
-        ensures { result ≡ find number (orders_in self.now.records.now) }
-    {
-        let spot = self.seek(&Numbered(number));
-        if spot.here == 0 {
-            None
-        } else {
-            Some(self.at(spot.here).order)
-        }
-    }
-
-    // The open shares of all orders at a price.
-    pub(crate) fn shares_at(&self, price: u32) -> u64
-        requires apart { Apart self.now.records.now }
-        requires whole { Whole self.now.records.now }
-        requires records_bound { shares_at price (orders_in self.now.records.now) < 2 ^ 64 }
-        ensures { result ≡ shares_at price (orders_in self.now.records.now) }
-    {
-        let mut sum = 0;
-        let mut here = self.first();
-        while here != 0 {
-            let record = self.at(here);
-            sum += shares_if(record.order, price) as u64;
-            here = record.next;
-        }
-        sum
-    }
-}
-
-// The order's open shares if it stands at that price.
-fn shares_if(order: Standing, price: u32) -> u32
-    ensures { result ≡ (if nat_eq order.price price then order.shares else 0) }
-{
-    if order.price == price {
-        order.shares
-    } else {
-        0
     }
 }

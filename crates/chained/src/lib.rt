@@ -4,4 +4,3 @@
 pub mod chained;
 mod chains;
 pub mod record;
-mod walk;

@@ -12,12 +12,9 @@ pub struct Record {
 }
 
 impl Record {
+    // What fills the records before they are lent. No `Default` beside it: a blank record has one name.
     pub const BLANK: Record = Record {
-        order: Standing {
-            number: 0,
-            price: 0,
-            shares: 0,
-        },
+        order: Standing::BLANK,
         next: 0,
         free: 0,
     };

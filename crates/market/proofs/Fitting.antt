@@ -5,7 +5,7 @@ use Rattle.books.specs.declared.standing.Standing.{Standing}
 use Rattle.market.specs.Bounds.{SoundBooks, TradesFit}
 use Rattle.market.specs.Calls.{State, Done, unless, look_in, placed_at, booked_at, entered_by, entry_refusal, entry_of, cancel_refusal, notice_refusal, aside_refusal, resume_refusal}
 use Rattle.market.specs.Quoting.{away_of, quoted, dropped}
-use Rattle.market.specs.Sets.{Rooms, met_rule, own_rule, own_room, facing, seen_from, find_either, first_found, unless_found, without_in, placed_in}
+use Rattle.matching.specs.Sets.{Rooms, met_rule, own_rule, own_room, facing, seen_from, find_either, first_found, unless_found, without_in, placed_in}
 use Rattle.market.specs.declared.phase.Phase.{Phase}
 use Rattle.market.specs.declared.phase.Phase.TheVariants.{Open, Halted, Closed}
 use Rattle.market.proofs.Handled.{placed_few, looked_few}

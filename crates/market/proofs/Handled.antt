@@ -2,8 +2,8 @@
 use Rattle.std.proofs.Common.{◌≡◌, ℕ, ◌+◌, ◌-◌, ◌≤◌, min, List, length, take, drop, ap, ◌∙◌, subst, arith}
 use borrow.Rule.Slice.PartMut.{put_mid}
 use Rattle.market.specs.Handling.{Handles}
-use Rattle.market.specs.Placement.{PlacesIn}
-use Rattle.market.specs.Sets.{Rooms, met_rule, facing, placed_in, seen_from}
+use Rattle.matching.specs.Placement.{PlacesIn}
+use Rattle.matching.specs.Sets.{Rooms, met_rule, facing, placed_in, seen_from}
 use Rattle.market.proofs.Listing.{written_both}
 use Rattle.matching.proofs.Going.{steps_length}
 use Rattle.matching.proofs.Turns.{matched_shares}

@@ -1,4 +1,3 @@
-pub mod Away
 pub mod Listing
 pub mod Checks
 pub mod Handled

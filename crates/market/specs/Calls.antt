@@ -2,8 +2,8 @@
 use Rattle.std.specs.Prelude.{◌≡◌, ℕ, ◌+◌, ◌-◌, Bool, true, false, not, ◌&&◌, ◌||◌, List, [], ◌++◌, length, replicate, is_some, Some, None, Ok, Err, Option, Result, ◌==◌, count_ones, nat_le, nat_lt}
 use Rattle.books.specs.Lists.{shares_at}
 use Rattle.books.specs.declared.standing.Standing.{Standing}
-use Rattle.market.specs.Quoting.{no_quote, away_of, quoted, dropped, is_aside, with_aside}
-use Rattle.market.specs.Sets.{Rooms, empty_books, own_list, room_left, placed_in, seen_from, find_in, without_in, open_shares}
+use Rattle.market.specs.Quoting.{is_marketplace, no_quote, away_of, quoted, dropped, is_aside, with_aside}
+use Rattle.matching.specs.Sets.{Rooms, empty_books, own_list, room_left, placed_in, seen_from, find_in, without_in, open_shares}
 use Rattle.market.specs.declared.answers.Aside.{Aside}
 use Rattle.market.specs.declared.answers.Cancelled.{Cancelled}
 use Rattle.market.specs.declared.answers.Entered.{Entered}
@@ -22,6 +22,7 @@ use Rattle.rules.specs.Refusals.{check}
 use Rattle.rules.specs.Sheets.{increment_at, unit_at}
 use Rattle.rules.specs.declared.form.Form.{Form}
 use Rattle.rules.specs.declared.form.HandedBack.{HandedBack}
+use Rattle.rules.specs.declared.price.BestPrices.{BestPrices}
 use Rattle.rules.specs.declared.price.Quote.{Quote}
 use Rattle.rules.specs.declared.refusal.Refusal.{Refusal}
 use Rattle.rules.specs.declared.refusal.Refusal.TheVariants.{MarketClosed, MarketHalted, OtherClass, NumbersIssued, OwnBookFull, NotStanding, NoMarketplace, AlreadyAside, BadQuotePrice, WrongPhase, ShortTradeList}
@@ -99,6 +100,9 @@ list_checked s n = check (nat_le (standing_in s.books) n) ShortTradeList None
 
 -- Looking over, which only an open market does
 
+abbrev pub away_at : State → BestPrices
+away_at s = record { increment = s.increment; quote = away_of s.quotes }
+
 abbrev pub look_in : Phase → (increment : ℕ) → (away : Quote) → Books → Steps Books
 look_in Open increment away books = looked increment away books
 look_in Halted increment away books = record { trades = []; state = books }
@@ -170,10 +174,12 @@ entered_by s form p l = record {
   trades = p.trades ++ l.trades;
 }
 
+abbrev pub entered_at : State → Form → Done Entered
+entered_at s form =
+    entered_by s form (placed_at s form) (looked s.increment (away_of s.quotes) (booked_at s form (placed_at s form)).books)
+
 abbrev pub entered : State → Form → (n : ℕ) → Done Entered
-entered s form n =
-    unless (entry_refusal s form n) s
-    (entered_by s form (placed_at s form) (looked s.increment (away_of s.quotes) (booked_at s form (placed_at s form)).books))
+entered s form n = unless (entry_refusal s form n) s (entered_at s form)
 
 -- Cancel
 
@@ -191,9 +197,6 @@ cancelled s number n =
     (then_look (with_books s (without_in number s.books)) (λ k. record { shares = shares_of (find_in number s.books); trades = k }))
 
 -- Quote notice and set-aside
-
-abbrev pub is_marketplace : ℕ → Bool
-is_marketplace m = nat_le 1 m && nat_le m 8
 
 abbrev pub valid_quote : (increment : ℕ) → Option ℕ → Bool
 valid_quote increment None = true

@@ -1,7 +1,6 @@
 pub mod Phases
 pub mod Quoting
-pub mod Sets
-pub mod Placement
 pub mod Calls
+pub mod Marketplaces
 pub mod Handling
 pub mod Bounds

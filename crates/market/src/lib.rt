@@ -3,8 +3,8 @@
 #![tactic(auto)]
 
 pub mod answers;
-pub mod book_set;
 pub mod bounds;
+mod marketplace;
 pub mod phase;
 mod quotes;
 mod steps;

@@ -4,7 +4,7 @@ ghost use Rattle.market.specs.Phases.{moved};
 
 use rules::refusal::Refusal;
 
-#[derive(Clone, Copy, PartialEq)]
+#[derive(Clone, Copy, PartialEq, Eq)]
 pub enum Phase {
     Open,
     Halted,
@@ -19,6 +19,7 @@ pub enum Event {
 }
 
 impl Phase {
+    // Phase and event matched together: a form that the rules of the market name.
     pub fn after(self, event: Event) -> Result<Phase, Refusal>
         ensures { result ≡ moved self event }
     {

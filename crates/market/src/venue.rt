@@ -1,10 +1,11 @@
 // What a market is to whoever calls it: each call is one definition of what it answers, leaves and trades.
+// The list of trades is the caller's, and lent for each call.
 ghost use Rattle.std.specs.Prelude.{◌≡◌, length};
 ghost use Rattle.market.specs.Calls.{State, fresh, entered, AnswersEntry, cancelled, noticed, put_aside, halted, resumed, closed, best_on, front_on, displayed_at, open_of};
 ghost use Rattle.matching.specs.Trades.{written};
 
 use crate::answers::{Aside, Cancelled, Entered};
-use crate::book_set::BookSet;
+use matching::book_set::BookSet;
 use matching::trade::Trade;
 use rules::form::{Form, HandedBack};
 use rules::refusal::Refusal;

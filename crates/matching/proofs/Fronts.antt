@@ -1,5 +1,6 @@
 -- The candidate is the front order of the book that it names, and a trade with it takes an order out or fills the entry.
 use Rattle.std.proofs.Common.{◌≡◌, ℕ, ◌+◌, ◌-◌, ◌<◌, ◌≤◌, min, Bool, true, false, cond, ◌&&◌, eqb, leb, List, [], ◌∷◌, length, Some, None, Ok, Option, refl, ap, ◌∙◌, subst, add-one, arith, eq-eqb}
+use Rattle.std.proofs.lemmas.Option.{none-some, same_Some}
 use borrow.Author.Tests.{eqb-false}
 use Rattle.std.proofs.lemmas.Bool.Decides.{nat_tests}
 use Rattle.books.specs.Lists.{taken, less, reduced, unless, AllSound, sound, front_of}
@@ -7,38 +8,33 @@ use Rattle.books.specs.declared.standing.Standing.{Standing}
 use Rattle.rules.specs.Refusals.{check}
 use Rattle.rules.specs.Sides.{Rule}
 use Rattle.rules.specs.declared.refusal.Refusal.TheVariants.{BadTake}
-use Rattle.matching.specs.Matching.{front_if, front_price, best_against, displayed_passes, dark_passes, displayed_candidate, dark_candidate, chosen, candidate, Scene, displayed_one, dark_one}
+use Rattle.matching.specs.Matching.{front_if, front_price, best_against, displayed_passes, dark_passes, displayed_candidate, dark_candidate, chosen, candidate, Scene, order_in, is_dark}
 use Rattle.matching.specs.declared.candidate.Around.{Around}
 use Rattle.matching.specs.declared.candidate.Candidate.{Candidate}
+use Rattle.matching.specs.declared.candidate.Candidate.TheVariants.{Displayed, Dark}
 use Rattle.matching.specs.declared.candidate.Entry.{Entry}
 
 -- the book that a candidate names has it in front
 abbrev pub InFront : Candidate → (displayed dark : List Standing) → Type 0
-InFront c displayed dark = front_of (cond c.dark dark displayed) ≡ Some c.order
-
-pub none_some : {X : Type 0} {x : X} → None ≡ Some x → ⊥
-none_some e = let z : ◌≡◌ {A = ℕ} 0 1 = cc in omega arith
-
-pub some_same : {X : Type 0} {x y : X} → Some x ≡ Some y → x ≡ y
-some_same e = cc
+InFront c displayed dark = front_of (cond (is_dark c) dark displayed) ≡ Some (order_in c)
 
 front_if_front : (passes : ℕ → Bool) (orders : List Standing) (o : Standing) → front_if passes orders ≡ Some o → front_of orders ≡ Some o
 front_if_front passes [] o h = h
 front_if_front passes (x ∷ xs) o h =
     let P : Bool → Type 0 = λ b. cond b (Some x) None ≡ Some o → Some x ≡ Some o in
-    elim (passes x.price) as P [ true ↦ λ e. e | false ↦ λ e. absurd (none_some e) ] h
+    elim (passes x.price) as P [ true ↦ λ e. e | false ↦ λ e. absurd (none-some _ e) ] h
 
 chosen_front : (rule : Rule) (d k : Option Standing) (displayed dark : List Standing) (c : Candidate) → ((o : Standing) → d ≡ Some o → front_of displayed ≡ Some o) → ((o : Standing) → k ≡ Some o → front_of dark ≡ Some o) → chosen rule d k ≡ Some c → InFront c displayed dark
-chosen_front rule None None displayed dark c hd hk e = absurd (none_some e)
-chosen_front rule (Some d) None displayed dark c hd hk e = subst (λ x. InFront x displayed dark) (some_same e) (hd d refl)
-chosen_front rule None (Some k) displayed dark c hd hk e = subst (λ x. InFront x displayed dark) (some_same e) (hk k refl)
+chosen_front rule None None displayed dark c hd hk e = absurd (none-some _ e)
+chosen_front rule (Some d) None displayed dark c hd hk e = subst (λ x. InFront x displayed dark) (same_Some _ _ e) (hd d refl)
+chosen_front rule None (Some k) displayed dark c hd hk e = subst (λ x. InFront x displayed dark) (same_Some _ _ e) (hk k refl)
 chosen_front rule (Some d) (Some k) displayed dark c hd hk e =
-    let P : Bool → Type 0 = λ b. InFront (cond b (dark_one k) (displayed_one d)) displayed dark in
-    subst (λ x. InFront x displayed dark) (some_same e)
+    let P : Bool → Type 0 = λ b. InFront (cond b (Dark k) (Displayed d)) displayed dark in
+    subst (λ x. InFront x displayed dark) (same_Some _ _ e)
     (elim (rule.ahead k.price d.price) as P [ true ↦ hk k refl | false ↦ hd d refl ])
 
 open_some : {X : Type 0} (b : Bool) (x : Option X) (y : X) → cond b None x ≡ Some y → (b ≡ false) × (x ≡ Some y)
-open_some true x y e = absurd (none_some e)
+open_some true x y e = absurd (none-some _ e)
 open_some false x y e = (refl, e)
 
 module _ (rule : Rule) (entry : Entry) (around : Around) (scene : Scene) (c : Candidate) (is : candidate rule entry around scene ≡ Some c) where
@@ -74,21 +70,21 @@ module _ (o : Standing) (os : List Standing) (q : ℕ) (some : 0 < q) (within : 
 
 -- where the entry is not filled, the order goes
 pub one_fewer : (orders : List Standing) (o : Standing) (n : ℕ) → front_of orders ≡ Some o → AllSound orders → 0 < n → 0 < n - min o.shares n → length (taken orders (min o.shares n)).list + 1 ≡ length orders
-one_fewer [] o n front sounds some more = absurd (none_some front)
+one_fewer [] o n front sounds some more = absurd (none-some _ front)
 one_fewer (x ∷ xs) o n front sounds some more =
     let P : Standing → Type 0 = λ y. 0 < n - min y.shares n → length (taken (x ∷ xs) (min y.shares n)).list + 1 ≡ length (x ∷ xs) in
     let shares = sound_shares x sounds.0 in
-    subst P (some_same front)
+    subst P (same_Some _ _ front)
     (λ h. ap (λ ys. length ys + 1) (taken_all x xs (min x.shares n) (omega arith) (omega arith) (omega arith)) ∙ add-one (length xs))
     more
 
 pub some_stand : (orders : List Standing) (o : Standing) → front_of orders ≡ Some o → 0 < length orders
-some_stand [] o front = absurd (none_some front)
+some_stand [] o front = absurd (none-some _ front)
 some_stand (x ∷ xs) o front = omega arith
 
 pub some_shares : (orders : List Standing) (o : Standing) → front_of orders ≡ Some o → AllSound orders → 0 < o.shares
-some_shares [] o front sounds = absurd (none_some front)
-some_shares (x ∷ xs) o front sounds = subst (λ y. 0 < y.shares) (some_same front) (sound_shares x sounds.0)
+some_shares [] o front sounds = absurd (none-some _ front)
+some_shares (x ∷ xs) o front sounds = subst (λ y. 0 < y.shares) (same_Some _ _ front) (sound_shares x sounds.0)
 
 -- whatever is taken from a list, it is no longer, and its orders stay sound
 pub taken_shorter : (orders : List Standing) (q : ℕ) → length (taken orders q).list ≤ length orders

@@ -3,3 +3,4 @@ pub mod Going
 pub mod Fronts
 pub mod Turns
 pub mod Pairs
+pub mod Ending

@@ -1,20 +1,22 @@
 -- The loop that looks over the books: the trade of a pair takes an order out.
 use Rattle.std.proofs.Common.{◌≡◌, ℕ, ◌+◌, ◌<◌, ◌≤◌, min, Bool, true, false, cond, ◌⊎◌, List, [], ◌∷◌, length, set, Some, None, Option, sym, refl, ap, subst, inl, inr, arith}
+use Rattle.std.proofs.lemmas.Option.{none-some, same_Some}
 use Rattle.std.proofs.lemmas.Bool.Decides.{leb_tells}
 use Rattle.books.specs.Lists.{taken, AllSound}
 use Rattle.books.specs.declared.standing.Standing.{Standing}
 use Rattle.rules.specs.Sides.{Rule, bids, asks}
 use Rattle.rules.specs.declared.price.Quote.{Quote}
-use Rattle.matching.specs.Looking.{Books, best_in, pair, either_pair, pair_in, paired, pair_step, look_step, standing_in, looked, Looks}
+use Rattle.matching.specs.Looking.{Books, best_in, pair, either_pair, pair_in, paired, trade_in, pair_step, look_step, standing_in, looked, Looks}
 use Rattle.matching.specs.Trades.{Step}
 use Rattle.matching.specs.declared.pair.Pair.{Pair}
+use Rattle.matching.specs.declared.pair.Pair.TheVariants.{Sale, Purchase}
 use Rattle.matching.specs.declared.trade.Trade.{Trade}
-use Rattle.matching.proofs.Fronts.{none_some, some_same, sound_shares, taken_all, taken_least, taken_sound}
+use Rattle.matching.proofs.Fronts.{sound_shares, taken_all, taken_least, taken_sound}
 use Rattle.matching.proofs.Going.{steps_but_one, Progress, progress_none, progress_more, progress_state, progress_count, progress_list}
 
 pub kept_some : {X : Type 0} (b : Bool) (x y : X) → cond b (Some x) None ≡ Some y → x ≡ y
-kept_some true x y e = some_same e
-kept_some false x y e = absurd (none_some e)
+kept_some true x y e = same_Some _ _ e
+kept_some false x y e = absurd (none-some _ e)
 
 both_fewer : (d : Standing) (ds : List Standing) (k : Standing) (ks : List Standing) → 0 < d.shares → 0 < k.shares → length (taken (d ∷ ds) (min d.shares k.shares)).list + length (taken (k ∷ ks) (min d.shares k.shares)).list < length (d ∷ ds) + length (k ∷ ks)
 both_fewer d ds k ks some_d some_k =
@@ -29,8 +31,8 @@ both_fewer d ds k ks some_d some_k =
 
 -- the shares of a pair's trade take at least one of the two orders out
 pub pair_fewer : (rule : Rule) (increment : ℕ) (best : Quote) (displayed dark : List Standing) (t : Trade) → pair rule increment best displayed dark ≡ Some t → AllSound displayed → AllSound dark → length (taken displayed t.shares).list + length (taken dark t.shares).list < length displayed + length dark
-pair_fewer rule increment best [] dark t is sd sk = absurd (none_some is)
-pair_fewer rule increment best (d ∷ ds) [] t is sd sk = absurd (none_some is)
+pair_fewer rule increment best [] dark t is sd sk = absurd (none-some _ is)
+pair_fewer rule increment best (d ∷ ds) [] t is sd sk = absurd (none-some _ is)
 pair_fewer rule increment best (d ∷ ds) (k ∷ ks) t is sd sk =
     let P : Trade → Type 0 = λ u. length (taken (d ∷ ds) u.shares).list + length (taken (k ∷ ks) u.shares).list < length (d ∷ ds) + length (k ∷ ks) in
     subst P (kept_some _ _ _ is) (both_fewer d ds k ks (sound_shares d sd.0) (sound_shares k sk.0))
@@ -40,16 +42,16 @@ AllKept books = AllSound books.bids × AllSound books.asks × AllSound books.dar
 
 module _ (increment : ℕ) (away : Quote) where
   -- which of the two pairs it is
-  pub either : (sale purchase : Option Trade) (p : Pair) → either_pair sale purchase ≡ Some p → ((sale ≡ Some p.trade) × (p.sale ≡ true)) ⊎ ((purchase ≡ Some p.trade) × (p.sale ≡ false))
-  either (Some t) purchase p is = let same = some_same is in inl (ap (λ q. Some q.trade) same, ap (λ q. q.sale) (sym same))
-  either None (Some t) p is = let same = some_same is in inr (ap (λ q. Some q.trade) same, ap (λ q. q.sale) (sym same))
-  either None None p is = absurd (none_some is)
+  pub either : (sale purchase : Option Trade) (p : Pair) → either_pair sale purchase ≡ Some p → ((t : Trade) × (sale ≡ Some t) × (p ≡ Sale t)) ⊎ ((t : Trade) × (purchase ≡ Some t) × (p ≡ Purchase t))
+  either (Some t) purchase p is = inl (t, refl, sym (same_Some _ _ is))
+  either None (Some t) p is = inr (t, refl, sym (same_Some _ _ is))
+  either None None p is = absurd (none-some _ is)
 
   pub paired_fewer : (books : Books) (p : Pair) → pair_in increment away books ≡ Some p → AllKept books → standing_in (paired p books) < standing_in books
   paired_fewer books p is kept =
       elim (either (pair bids increment (best_in away books) books.asks books.dark_bids) (pair asks increment (best_in away books) books.bids books.dark_asks) p is) [
-        | inl h ↦ rw h.1 (omega (arith, pair_fewer bids increment (best_in away books) books.asks books.dark_bids p.trade h.0 kept.1 kept.2))
-        | inr h ↦ rw h.1 (omega (arith, pair_fewer asks increment (best_in away books) books.bids books.dark_asks p.trade h.0 kept.0 kept.3))
+        | inl h ↦ rw h.2 (omega (arith, pair_fewer bids increment (best_in away books) books.asks books.dark_bids h.0 h.1 kept.1 kept.2))
+        | inr h ↦ rw h.2 (omega (arith, pair_fewer asks increment (best_in away books) books.bids books.dark_asks h.0 h.1 kept.0 kept.3))
       ]
 
   -- the steps that are left suffice
@@ -63,7 +65,7 @@ module _ (increment : ℕ) (away : Quote) where
     enough = omega arith;
   }
 
-  pub looking_more : (start : Books) (list : List Trade) (books : Books) (listed : List Trade) (count : ℕ) (p : Pair) → Looking start list books listed count → pair_in increment away books ≡ Some p → AllKept books → Looking start list (paired p books) (set listed count p.trade) (count + 1)
+  pub looking_more : (start : Books) (list : List Trade) (books : Books) (listed : List Trade) (count : ℕ) (p : Pair) → Looking start list books listed count → pair_in increment away books ≡ Some p → AllKept books → Looking start list (paired p books) (set listed count (trade_in p)) (count + 1)
   looking_more start list books listed count p l is kept =
       let down = paired_fewer books p is kept in
       record {
@@ -74,7 +76,7 @@ module _ (increment : ℕ) (away : Quote) where
       }
 
   -- the same, of what a turn of the loop leaves
-  pub looking_turn : (start : Books) (list : List Trade) (books after : Books) (listed more : List Trade) (count : ℕ) (p : Pair) → Looking start list books listed count → pair_in increment away books ≡ Some p → AllKept books → after ≡ paired p books → more ≡ set listed count p.trade → Looking start list after more (count + 1)
+  pub looking_turn : (start : Books) (list : List Trade) (books after : Books) (listed more : List Trade) (count : ℕ) (p : Pair) → Looking start list books listed count → pair_in increment away books ≡ Some p → AllKept books → after ≡ paired p books → more ≡ set listed count (trade_in p) → Looking start list after more (count + 1)
   looking_turn start list books after listed more count p l is kept ea em = rw (ea, em) (looking_more start list books listed count p l is kept)
 
   pub turn_fewer : (books after : Books) (p : Pair) → pair_in increment away books ≡ Some p → AllKept books → after ≡ paired p books → standing_in after < standing_in books
@@ -89,27 +91,27 @@ module _ (increment : ℕ) (away : Quote) where
         list_is = progress_list (look_step increment away) (standing_in start) start list books listed count l.so_far stop;
       }
 
-  pub paired_sound : (p : Pair) (b : Bool) (books : Books) → AllKept books → AllSound (cond b books.bids (taken books.bids p.trade.shares).list) × AllSound (cond b (taken books.asks p.trade.shares).list books.asks) × AllSound (cond b (taken books.dark_bids p.trade.shares).list books.dark_bids) × AllSound (cond b books.dark_asks (taken books.dark_asks p.trade.shares).list)
-  paired_sound p true books k = (k.0, taken_sound books.asks p.trade.shares k.1, taken_sound books.dark_bids p.trade.shares k.2, k.3)
-  paired_sound p false books k = (taken_sound books.bids p.trade.shares k.0, k.1, k.2, taken_sound books.dark_asks p.trade.shares k.3)
+  pub paired_sound : (p : Pair) (books : Books) → AllKept books → AllKept (paired p books)
+  paired_sound (Sale t) books k = (k.0, taken_sound books.asks t.shares k.1, taken_sound books.dark_bids t.shares k.2, k.3)
+  paired_sound (Purchase t) books k = (taken_sound books.bids t.shares k.0, k.1, k.2, taken_sound books.dark_asks t.shares k.3)
 
   pub look_falls : (books : Books) (o : Option Pair) (s : Step Books) → pair_in increment away books ≡ o → pair_step books o ≡ Some s → AllKept books → AllKept s.after × (standing_in s.after < standing_in books)
-  look_falls books None s is step kept = absurd (none_some step)
+  look_falls books None s is step kept = absurd (none-some _ step)
   look_falls books (Some p) s is step kept =
-      subst (λ r. AllKept r.after × (standing_in r.after < standing_in books)) (some_same step)
-      (paired_sound p p.sale books kept, paired_fewer books p is kept)
+      subst (λ r. AllKept r.after × (standing_in r.after < standing_in books)) (same_Some _ _ step)
+      (paired_sound p books kept, paired_fewer books p is kept)
 
   pair_two : (rule : Rule) (best : Quote) (displayed dark : List Standing) (t : Trade) → pair rule increment best displayed dark ≡ Some t → 2 ≤ length displayed + length dark
-  pair_two rule best [] dark t is = absurd (none_some is)
-  pair_two rule best (d ∷ ds) [] t is = absurd (none_some is)
+  pair_two rule best [] dark t is = absurd (none-some _ is)
+  pair_two rule best (d ∷ ds) [] t is = absurd (none-some _ is)
   pair_two rule best (d ∷ ds) (k ∷ ks) t is = omega arith
 
   look_two : (books : Books) (o : Option Pair) (s : Step Books) → pair_in increment away books ≡ o → pair_step books o ≡ Some s → 2 ≤ standing_in books
-  look_two books None s is step = absurd (none_some step)
+  look_two books None s is step = absurd (none-some _ step)
   look_two books (Some p) s is step =
       elim (either (pair bids increment (best_in away books) books.asks books.dark_bids) (pair asks increment (best_in away books) books.bids books.dark_asks) p is) [
-        | inl h ↦ omega (arith, pair_two bids (best_in away books) books.asks books.dark_bids p.trade h.0)
-        | inr h ↦ omega (arith, pair_two asks (best_in away books) books.bids books.dark_asks p.trade h.0)
+        | inl h ↦ omega (arith, pair_two bids (best_in away books) books.asks books.dark_bids h.0 h.1)
+        | inr h ↦ omega (arith, pair_two asks (best_in away books) books.bids books.dark_asks h.0 h.1)
       ]
 
   -- looking over makes at least one trade fewer than orders stand

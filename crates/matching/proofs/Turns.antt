@@ -1,16 +1,17 @@
 -- The loop that matches an entry: a trade takes an order out, or fills the entry.
 use Rattle.std.proofs.Common.{◌≡◌, ℕ, ◌+◌, ◌-◌, ◌<◌, ◌≤◌, min, Bool, true, false, cond, eqb, List, length, set, Some, None, Option, refl, ap, subst, arith, ne_eqb}
+use Rattle.std.proofs.lemmas.Option.{none-some, same_Some}
 use borrow.Author.Tests.{eqb-false}
 use Rattle.books.specs.Lists.{taken, AllSound, front_of}
 use Rattle.books.specs.declared.standing.Standing.{Standing}
 use Rattle.rules.specs.Sides.{Rule}
-use Rattle.matching.specs.Matching.{Scene, candidate, trade_with, displayed_after, dark_after, traded, trade_step, match_step, matched, Leaves}
+use Rattle.matching.specs.Matching.{Scene, candidate, trade_with, displayed_after, dark_after, traded, trade_step, match_step, matched, Leaves, order_in, is_dark}
 use Rattle.matching.specs.Trades.{Step}
 use Rattle.matching.specs.declared.candidate.Around.{Around}
 use Rattle.matching.specs.declared.candidate.Candidate.{Candidate}
 use Rattle.matching.specs.declared.candidate.Entry.{Entry}
 use Rattle.matching.specs.declared.trade.Trade.{Trade}
-use Rattle.matching.proofs.Fronts.{none_some, some_same, candidate_front, shares_open, one_fewer, some_stand, some_shares, taken_shorter, taken_sound}
+use Rattle.matching.proofs.Fronts.{candidate_front, shares_open, one_fewer, some_stand, some_shares, taken_shorter, taken_sound}
 use Rattle.matching.proofs.Going.{steps_keep, steps_spend, Progress, progress_none, progress_more, progress_state, progress_count, progress_list}
 
 abbrev pub standing : Scene → ℕ
@@ -51,19 +52,19 @@ module _ (rule : Rule) (entry : Entry) (around : Around) where
     pub shares_fall : scene.shares - t.shares < scene.shares
     shares_fall =
         let some = shares_open rule entry around scene c is in
-        let q = holds_shares c.order scene.displayed scene.dark sd sk c.dark (candidate_front rule entry around scene c is) in
+        let q = holds_shares (order_in c) scene.displayed scene.dark sd sk (is_dark c) (candidate_front rule entry around scene c is) in
         rw et (omega arith)
 
     turning_step : (start : Scene) (list listed : List Trade) (count : ℕ) → Turning start list scene listed count → Turning start list (traded (trade_with entry c scene.shares) scene) (set listed count (trade_with entry c scene.shares)) (count + 1)
     turning_step start list listed count p =
         let front = candidate_front rule entry around scene c is in
         let some = shares_open rule entry around scene c is in
-        let one = stands c.order scene.displayed scene.dark c.dark front in
+        let one = stands (order_in c) scene.displayed scene.dark (is_dark c) front in
         record {
           so_far =
               progress_more (match_step rule entry around) (standing start) start list scene listed count p.so_far _
               (ap (trade_step entry scene) is) (omega (arith, p.enough some));
-          enough = λ left. omega (arith, p.enough some, fewer c.order scene.displayed scene.dark sd sk c.dark scene.shares front some left);
+          enough = λ left. omega (arith, p.enough some, fewer (order_in c) scene.displayed scene.dark sd sk (is_dark c) scene.shares front some left);
         }
 
     pub turning_more : (start : Scene) (list listed : List Trade) (count : ℕ) (displayed dark : List Standing) (after : List Trade) → Turning start list scene listed count → displayed ≡ displayed_after t scene.displayed → dark ≡ dark_after t scene.dark → after ≡ set listed count t → Turning start list (record { displayed = displayed; dark = dark; shares = scene.shares - t.shares }) after (count + 1)
@@ -82,8 +83,8 @@ module _ (rule : Rule) (entry : Entry) (around : Around) where
       }
 
   step_shares : (scene : Scene) (o : Option Candidate) (s : Step Scene) → trade_step entry scene o ≡ Some s → s.after.shares ≤ scene.shares
-  step_shares scene None s is = absurd (none_some is)
-  step_shares scene (Some c) s is = subst (λ r. r.after.shares ≤ scene.shares) (some_same is) (omega arith)
+  step_shares scene None s is = absurd (none-some _ is)
+  step_shares scene (Some c) s is = subst (λ r. r.after.shares ≤ scene.shares) (same_Some _ _ is) (omega arith)
 
   -- matching leaves no more than was entered
   pub matched_shares : (scene : Scene) → (matched rule entry around scene).state.shares ≤ scene.shares
@@ -112,20 +113,20 @@ module _ (rule : Rule) (entry : Entry) (around : Around) where
       let front = candidate_front rule entry around scene c is in
       let some = shares_open rule entry around scene c is in
       let before : eqb scene.shares 0 ≡ false = ne_eqb scene.shares 0 (omega arith) in
-      let less = after_shorter t c.dark scene in
+      let less = after_shorter t (is_dark c) scene in
       let P : Bool → Type 0 = λ b. eqb (traded t scene).shares 0 ≡ b → standing (traded t scene) + cond b 0 1 < standing scene + 1 in (
-        after_sound t c.dark scene sounds,
+        after_sound t (is_dark c) scene sounds,
         rw before
             (elim (eqb (traded t scene).shares 0) as P [
               | true ↦ λ _. omega (arith, less)
-              | false ↦ λ e. omega (arith, fewer c.order scene.displayed scene.dark sounds.0 sounds.1 c.dark scene.shares front some (positive (traded t scene).shares e))
+              | false ↦ λ e. omega (arith, fewer (order_in c) scene.displayed scene.dark sounds.0 sounds.1 (is_dark c) scene.shares front some (positive (traded t scene).shares e))
             ] refl),
       )
 
   step_falls : (scene : Scene) (o : Option Candidate) (s : Step Scene) → candidate rule entry around scene ≡ o → trade_step entry scene o ≡ Some s → Sounds scene → Sounds s.after × (chances s.after < chances scene)
-  step_falls scene None s is step sounds = absurd (none_some step)
+  step_falls scene None s is step sounds = absurd (none-some _ step)
   step_falls scene (Some c) s is step sounds =
-      subst (λ r. Sounds r.after × (chances r.after < chances scene)) (some_same step) (chances_fall scene c is sounds)
+      subst (λ r. Sounds r.after × (chances r.after < chances scene)) (same_Some _ _ step) (chances_fall scene c is sounds)
 
   -- a trade and an order left, and the rest if anything is open, for each order and one more
   pub matched_spends : (scene : Scene) → Sounds scene → length (matched rule entry around scene).trades + chances (matched rule entry around scene).state ≤ chances scene

@@ -1,5 +1,5 @@
 -- Looking over the books.
-use Rattle.std.specs.Prelude.{◌≡◌, ℕ, ◌+◌, min, true, false, cond, ◌&&◌, List, [], ◌∷◌, length, Some, None, Option}
+use Rattle.std.specs.Prelude.{◌≡◌, ℕ, ◌+◌, min, true, cond, ◌&&◌, List, [], ◌∷◌, length, Some, None, Option}
 use Rattle.books.specs.Lists.{taken}
 use Rattle.books.specs.declared.standing.Standing.{Standing}
 use Rattle.rules.specs.Better.{best_of, better}
@@ -8,6 +8,7 @@ use Rattle.rules.specs.declared.price.Quote.{Quote}
 use Rattle.matching.specs.Matching.{at_or_ahead, front_price}
 use Rattle.matching.specs.Trades.{Step, Steps, steps, written}
 use Rattle.matching.specs.declared.pair.Pair.{Pair}
+use Rattle.matching.specs.declared.pair.Pair.TheVariants.{Sale, Purchase}
 use Rattle.matching.specs.declared.trade.Trade.{Trade}
 
 pub record Books : Type 0 where
@@ -42,8 +43,8 @@ pair rule increment best (d ∷ ds) (k ∷ ks) =
 
 -- a sale pair, or else a purchase pair
 abbrev pub either_pair : (sale purchase : Option Trade) → Option Pair
-either_pair (Some t) purchase = Some record { trade = t; sale = true }
-either_pair None (Some t) = Some record { trade = t; sale = false }
+either_pair (Some t) purchase = Some (Sale t)
+either_pair None (Some t) = Some (Purchase t)
 either_pair None None = None
 
 abbrev pub pair_in : (increment : ℕ) → (away : Quote) → Books → Option Pair
@@ -53,16 +54,26 @@ pair_in increment away books =
 
 -- the trade of a pair takes its shares from the front of both books
 abbrev pub paired : Pair → Books → Books
-paired p books = record {
-  bids = cond p.sale books.bids (taken books.bids p.trade.shares).list;
-  asks = cond p.sale (taken books.asks p.trade.shares).list books.asks;
-  dark_bids = cond p.sale (taken books.dark_bids p.trade.shares).list books.dark_bids;
-  dark_asks = cond p.sale books.dark_asks (taken books.dark_asks p.trade.shares).list;
+paired (Sale t) books = record {
+  bids = books.bids;
+  asks = (taken books.asks t.shares).list;
+  dark_bids = (taken books.dark_bids t.shares).list;
+  dark_asks = books.dark_asks;
 }
+paired (Purchase t) books = record {
+  bids = (taken books.bids t.shares).list;
+  asks = books.asks;
+  dark_bids = books.dark_bids;
+  dark_asks = (taken books.dark_asks t.shares).list;
+}
+
+abbrev pub trade_in : Pair → Trade
+trade_in (Sale t) = t
+trade_in (Purchase t) = t
 
 abbrev pub pair_step : Books → Option Pair → Option (Step Books)
 pair_step books None = None
-pair_step books (Some p) = Some record { trade = p.trade; after = paired p books }
+pair_step books (Some p) = Some record { trade = trade_in p; after = paired p books }
 
 abbrev pub look_step : (increment : ℕ) → (away : Quote) → Books → Option (Step Books)
 look_step increment away books = pair_step books (pair_in increment away books)

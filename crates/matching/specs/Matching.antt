@@ -8,6 +8,7 @@ use Rattle.rules.specs.declared.price.Quote.{Quote}
 use Rattle.matching.specs.Trades.{Step, Steps, steps, written}
 use Rattle.matching.specs.declared.candidate.Around.{Around}
 use Rattle.matching.specs.declared.candidate.Candidate.{Candidate}
+use Rattle.matching.specs.declared.candidate.Candidate.TheVariants.{Displayed, Dark}
 use Rattle.matching.specs.declared.candidate.Entry.{Entry}
 use Rattle.matching.specs.declared.entry.Left.{Left}
 use Rattle.matching.specs.declared.trade.Trade.{Trade}
@@ -26,7 +27,7 @@ front_price [] = None
 front_price (o ∷ os) = Some o.price
 
 abbrev pub best_against : Rule → Around → (front : Option ℕ) → Quote
-best_against rule around front = best_of (placed rule.name front around.behind) around.away
+best_against rule around front = best_of (placed rule.name front around.behind) around.away.quote
 
 -- the front order, if its price passes
 abbrev pub front_if : (ℕ → Bool) → List Standing → Option Standing
@@ -36,7 +37,7 @@ front_if passes (o ∷ os) = cond (passes o.price) (Some o) None
 -- within the bound and, unless the entry is directed, not behind the away best
 abbrev pub displayed_passes : Rule → Entry → Around → ℕ → Bool
 displayed_passes rule entry around p =
-    at_or_ahead rule p entry.bound && (entry.directed || spared rule p (on rule.name around.away))
+    at_or_ahead rule p entry.bound && (entry.directed || spared rule p (on rule.name around.away.quote))
 
 abbrev pub displayed_candidate : Rule → Entry → Around → List Standing → Option Standing
 displayed_candidate rule entry around = front_if (displayed_passes rule entry around)
@@ -45,22 +46,24 @@ displayed_candidate rule entry around = front_if (displayed_passes rule entry ar
 abbrev pub dark_passes : Rule → Entry → Around → Quote → ℕ → Bool
 dark_passes rule entry around best p =
     at_or_ahead rule p entry.bound
-    && (better rule around.increment best p || (entry.large && spared rule p (on rule.name best)))
+    && (better rule around.away.increment best p || (entry.large && spared rule p (on rule.name best)))
 
 abbrev pub dark_candidate : Rule → Entry → Around → (front : Option ℕ) → List Standing → Option Standing
 dark_candidate rule entry around front = front_if (dark_passes rule entry around (best_against rule around front))
 
-abbrev pub displayed_one : Standing → Candidate
-displayed_one o = record { order = o; dark = false }
-
-abbrev pub dark_one : Standing → Candidate
-dark_one o = record { order = o; dark = true }
-
 abbrev pub chosen : Rule → Option Standing → Option Standing → Option Candidate
 chosen rule None None = None
-chosen rule (Some d) None = Some (displayed_one d)
-chosen rule None (Some k) = Some (dark_one k)
-chosen rule (Some d) (Some k) = Some (cond (rule.ahead k.price d.price) (dark_one k) (displayed_one d))
+chosen rule (Some d) None = Some (Displayed d)
+chosen rule None (Some k) = Some (Dark k)
+chosen rule (Some d) (Some k) = Some (cond (rule.ahead k.price d.price) (Dark k) (Displayed d))
+
+abbrev pub order_in : Candidate → Standing
+order_in (Displayed o) = o
+order_in (Dark o) = o
+
+abbrev pub is_dark : Candidate → Bool
+is_dark (Displayed o) = false
+is_dark (Dark o) = true
 
 -- the standing orders on the other side, and the shares of the entry that are open
 pub record Scene : Type 0 where
@@ -78,10 +81,10 @@ candidate rule entry around scene =
 abbrev pub trade_with : Entry → Candidate → (shares : ℕ) → Trade
 trade_with entry c shares = record {
   active = entry.number;
-  standing = c.order.number;
-  price = c.order.price;
-  shares = min c.order.shares shares;
-  dark = c.dark;
+  standing = (order_in c).number;
+  price = (order_in c).price;
+  shares = min (order_in c).shares shares;
+  dark = is_dark c;
 }
 
 -- a trade takes its shares from the front of the book that it names

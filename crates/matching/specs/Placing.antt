@@ -24,7 +24,7 @@ pub record View : Type 0 where
   pub own_dark : List Standing
 
 abbrev pub around_in : (increment : ℕ) → (away : Quote) → View → Around
-around_in increment away view = record { increment = increment; behind = front_price view.own; away = away }
+around_in increment away view = record { away = record { increment = increment; quote = away }; behind = front_price view.own }
 
 abbrev pub met : Rule → (increment : ℕ) → (away : Quote) → Entry → View → Steps Scene
 met rule increment away entry view =

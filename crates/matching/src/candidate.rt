@@ -4,7 +4,7 @@ ghost use Rattle.matching.specs.Matching.{at_or_ahead, spared, front_price, best
 
 use books::book::Book;
 use books::standing::Standing;
-use rules::price::{Quote, is_better};
+use rules::price::{BestPrices, Quote};
 use rules::side::Side;
 
 // What matching needs to know of an entry.
@@ -19,20 +19,21 @@ pub struct Entry {
     pub displayed: bool,
 }
 
-// The prices that stay while one entry is matched.
+// The prices that stay while one entry is matched. Not a part of the entry: a trade and a booking take the entry alone,
+// and the best prices these alone.
 #[derive(Clone, Copy)]
 pub struct Around {
-    pub increment: u32,
+    // those of other marketplaces
+    pub away: BestPrices,
     // our front displayed price on the entry's own side
     pub behind: Option<u32>,
-    // the best quotes of other marketplaces
-    pub away: Quote,
 }
 
+// The order that an entry trades with next, by the book in which it stands.
 #[derive(Clone, Copy)]
-pub struct Candidate {
-    pub order: Standing,
-    pub dark: bool,
+pub enum Candidate {
+    Displayed(Standing),
+    Dark(Standing),
 }
 
 // Whether of two prices the second does not come first.
@@ -46,41 +47,33 @@ pub(crate) fn at_or_ahead<S: Side>(p: u32, q: u32) -> bool
 fn spared<S: Side>(p: u32, limit: Option<u32>) -> bool
     ensures { result ≡ spared S.Side.rule p limit }
 {
-    match limit {
-        None => true,
-        Some(q) => at_or_ahead::<S>(p, q),
-    }
+    limit.is_none_or(|q| at_or_ahead::<S>(p, q))
 }
 
 pub fn front_price<B: Book>(book: &B) -> Option<u32>
     ensures { result ≡ front_price (B.Book.orders book.now) }
 {
-    match book.front() {
-        None => None,
-        Some(order) => Some(order.price),
-    }
+    book.front().map(|order| order.price)
 }
 
 // The best prices, where our displayed price on the side of the standing orders is this one.
-pub fn best_against<S: Side>(around: &Around, front: Option<u32>) -> Quote
-    ensures { result ≡ best_against S.Side.rule around.now front }
+pub fn best_against<S: Side>(around: &Around, front: Option<u32>) -> BestPrices
+    ensures { result ≡ record { increment = around.now.away.increment; quote = best_against S.Side.rule around.now front } }
 {
-    Quote::best(Quote::placed(S::name(), front, around.behind), around.away)
+    around
+        .away
+        .joined(Quote::placed(S::name(), front, around.behind))
 }
 
 // The front displayed order, within the bound and, unless the entry is directed, not behind the away best.
 fn displayed_candidate<D: Book>(active: &Entry, around: &Around, displayed: &D) -> Option<Standing>
     ensures { result ≡ displayed_candidate D.Side.Side.rule active.now around.now (D.Book.orders displayed.now) }
 {
-    let order = displayed.front()?;
-    let away = around.away.on(D::Side::name());
-    if at_or_ahead::<D::Side>(order.price, active.bound)
-        && (active.directed || spared::<D::Side>(order.price, away))
-    {
-        Some(order)
-    } else {
-        None
-    }
+    let away = around.away.quote.on(D::Side::name());
+    displayed.front().filter(|order| {
+        at_or_ahead::<D::Side>(order.price, active.bound)
+            && (active.directed || spared::<D::Side>(order.price, away))
+    })
 }
 
 // The front dark order, within the bound and at a better price; for a large entry the best price is enough.
@@ -92,15 +85,13 @@ fn dark_candidate<K: Book>(
 ) -> Option<Standing>
     ensures { result ≡ dark_candidate K.Side.Side.rule active.now around.now front (K.Book.orders dark.now) }
 {
-    let order = dark.front()?;
     let best = best_against::<K::Side>(around, front);
-    let better = is_better::<K::Side>(around.increment, best, order.price);
-    let at_best = active.large && spared::<K::Side>(order.price, best.on(K::Side::name()));
-    if at_or_ahead::<K::Side>(order.price, active.bound) && (better || at_best) {
-        Some(order)
-    } else {
-        None
-    }
+    let limit = best.quote.on(K::Side::name());
+    dark.front().filter(|order| {
+        at_or_ahead::<K::Side>(order.price, active.bound)
+            && (best.is_better::<K::Side>(order.price)
+                || (active.large && spared::<K::Side>(order.price, limit)))
+    })
 }
 
 // Of two candidates the one whose price comes first; at equal prices the displayed one.
@@ -108,22 +99,9 @@ fn chosen<S: Side>(displayed: Option<Standing>, dark: Option<Standing>) -> Optio
     ensures { result ≡ chosen S.Side.rule displayed dark }
 {
     match (displayed, dark) {
-        (None, None) => None,
-        (Some(order), None) => Some(Candidate { order, dark: false }),
-        (None, Some(order)) => Some(Candidate { order, dark: true }),
-        (Some(d), Some(k)) => {
-            if S::comes_first(k.price, d.price) {
-                Some(Candidate {
-                    order: k,
-                    dark: true,
-                })
-            } else {
-                Some(Candidate {
-                    order: d,
-                    dark: false,
-                })
-            }
-        }
+        (Some(d), Some(k)) if S::comes_first(k.price, d.price) => Some(Candidate::Dark(k)),
+        (Some(d), _) => Some(Candidate::Displayed(d)),
+        (None, k) => k.map(Candidate::Dark),
     }
 }
 

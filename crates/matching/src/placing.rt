@@ -4,11 +4,12 @@ ghost use Rattle.matching.specs.Placing.{is_booked, booked_in, placed, Places};
 
 use crate::candidate::{Around, Entry, front_price};
 use crate::entry::match_entry;
+use crate::side_books::SideBooks;
 use crate::trade::Trade;
 use crate::way::{Rest, Way, way_of};
 use books::book::Book;
 use books::standing::Standing;
-use rules::price::Quote;
+use rules::price::BestPrices;
 use rules::side::Side;
 
 // What an entry came to: the shares that matching left, how they ended, and how many trades were made.
@@ -20,16 +21,15 @@ pub struct Ended {
 }
 
 // Books the rest at its bound, in the displayed or the dark book of the order's own side.
-fn book_rest<T: Side, O: Book<Side = T>, H: Book<Side = T>>(
+fn book_rest<O: Book, H: Book<Side = O::Side>>(
     active: &Entry,
     way: Way,
     shares: u32,
-    own: &mut O,
-    own_dark: &mut H,
+    own: &mut SideBooks<O, H>,
 )
-    ensures own { O.Book.orders own.new ≡ booked_in (is_booked way && active.now.displayed) T.Side.rule (O.Book.room own.old) active.now shares (O.Book.orders own.old) }
-    ensures own_dark { H.Book.orders own_dark.new ≡ booked_in (is_booked way && not active.now.displayed) T.Side.rule (H.Book.room own_dark.old) active.now shares (H.Book.orders own_dark.old) }
-    ensures places { (O.Book.room own.new ≡ O.Book.room own.old) × (H.Book.room own_dark.new ≡ H.Book.room own_dark.old) }
+    ensures own { O.Book.orders own.new.displayed ≡ booked_in (is_booked way && active.now.displayed) O.Side.Side.rule (O.Book.room own.old.displayed) active.now shares (O.Book.orders own.old.displayed) }
+    ensures own_dark { H.Book.orders own.new.dark ≡ booked_in (is_booked way && not active.now.displayed) O.Side.Side.rule (H.Book.room own.old.dark) active.now shares (H.Book.orders own.old.dark) }
+    ensures places { (O.Book.room own.new.displayed ≡ O.Book.room own.old.displayed) × (H.Book.room own.new.dark ≡ H.Book.room own.old.dark) }
 {
     let Way::Booked = way else {
         return;
@@ -39,51 +39,41 @@ fn book_rest<T: Side, O: Book<Side = T>, H: Book<Side = T>>(
         price: active.bound,
         shares,
     };
+    // an add that is refused leaves its book as it was, as the definition has it
     if active.displayed {
-        let _ = own.add(order);
+        let _ = own.displayed.add(order);
     } else {
-        let _ = own_dark.add(order);
+        let _ = own.dark.add(order);
     }
 }
 
 // Matches an entry, ends its rest and writes the trades to the front of the list.
-pub fn place<
-    S: Side,
-    T: Side,
-    D: Book<Side = S>,
-    K: Book<Side = S>,
-    O: Book<Side = T>,
-    H: Book<Side = T>,
->(
-    increment: u32,
-    away: Quote,
+pub fn place<D: Book, K: Book<Side = D::Side>, O: Book, H: Book<Side = O::Side>>(
+    away: BestPrices,
     active: &Entry,
-    displayed: &mut D,
-    dark: &mut K,
-    own: &mut O,
-    own_dark: &mut H,
+    met: &mut SideBooks<D, K>,
+    own: &mut SideBooks<O, H>,
     list: &mut [Trade],
 ) -> Ended
-    ensures places { Places (placed S.Side.rule T.Side.rule increment away (O.Book.room own.old) (H.Book.room own_dark.old) active.now (record { displayed = D.Book.orders displayed.old; dark = K.Book.orders dark.old; own = O.Book.orders own.old; own_dark = H.Book.orders own_dark.old })) (record { displayed = D.Book.orders displayed.new; dark = K.Book.orders dark.new; own = O.Book.orders own.new; own_dark = H.Book.orders own_dark.new }) list.old list.new result }
-    ensures met_places { (D.Book.room displayed.new ≡ D.Book.room displayed.old) × (K.Book.room dark.new ≡ K.Book.room dark.old) }
-    ensures own_places { (O.Book.room own.new ≡ O.Book.room own.old) × (H.Book.room own_dark.new ≡ H.Book.room own_dark.old) }
+    ensures places { Places (placed D.Side.Side.rule O.Side.Side.rule away.increment away.quote (O.Book.room own.old.displayed) (H.Book.room own.old.dark) active.now (record { displayed = D.Book.orders met.old.displayed; dark = K.Book.orders met.old.dark; own = O.Book.orders own.old.displayed; own_dark = H.Book.orders own.old.dark })) (record { displayed = D.Book.orders met.new.displayed; dark = K.Book.orders met.new.dark; own = O.Book.orders own.new.displayed; own_dark = H.Book.orders own.new.dark }) list.old list.new result }
+    ensures met_places { (D.Book.room met.new.displayed ≡ D.Book.room met.old.displayed) × (K.Book.room met.new.dark ≡ K.Book.room met.old.dark) }
+    ensures own_places { (O.Book.room own.new.displayed ≡ O.Book.room own.old.displayed) × (H.Book.room own.new.dark ≡ H.Book.room own.old.dark) }
 {
     let around = Around {
-        increment,
-        behind: front_price(own),
         away,
+        behind: front_price(&own.displayed),
     };
-    let left = match_entry(active, &around, displayed, dark, list);
-    let way = way_of::<S>(Rest {
+    let left = match_entry(active, &around, met, list);
+    let way = way_of::<D::Side>(Rest {
         shares: left.shares,
         immediate: active.immediate,
         directed: active.directed,
         displayed: active.displayed,
         bound: active.bound,
-        away: away.on(S::name()),
-        front: front_price(displayed),
+        away: away.quote.on(D::Side::name()),
+        front: front_price(&met.displayed),
     });
-    book_rest::<T, O, H>(active, way, left.shares, own, own_dark);
+    book_rest(active, way, left.shares, own);
     Ended {
         shares: left.shares,
         way,

@@ -1,13 +1,13 @@
 // The record of a trade, and the caller's list of them.
 ghost use Rattle.std.specs.Prelude.{◌≡◌, slice_set};
 
-#[derive(Clone, Copy, PartialEq)]
+#[derive(Clone, Copy, PartialEq, Eq, Default)]
 pub struct Trade {
     pub active: u32,
     pub standing: u32,
     pub price: u32,
     pub shares: u32,
-    // whether the standing order is dark
+    // whether the standing order is dark: a flag, as the record is read by members
     pub dark: bool,
 }
 

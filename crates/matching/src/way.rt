@@ -1,23 +1,25 @@
 // How what is left of an entry ends.
-ghost use Rattle.std.specs.Prelude.{◌≡◌};
+ghost use Rattle.std.specs.Prelude.{◌≡◌, Some, decimal};
 ghost use Rattle.matching.specs.Ways.{way_number, way_booked, way_cancelled, reached, way_of};
 
 use crate::candidate::at_or_ahead;
 use rules::side::Side;
+use std::fmt;
 
-#[derive(Clone, Copy, PartialEq)]
+#[derive(Clone, Copy, PartialEq, Eq)]
 pub enum Way {
-    Filled,
-    Booked,
+    Filled = 1,
+    Booked = 2,
     // immediate, so what is left is cancelled
-    Immediate,
+    Immediate = 3,
     // cancelled at or through the away best
-    AwayBest,
+    AwayBest = 4,
     // a displayed rest, cancelled at or through our own front
-    OwnFront,
+    OwnFront = 5,
 }
 
-// What decides the way: what is left of the order, and the prices on the other side.
+// What decides the way: what is left of the order, and the prices on the other side. Not the entry itself: its number,
+// its size and its shares decide nothing here.
 #[derive(Clone, Copy)]
 pub struct Rest {
     pub shares: u32,
@@ -33,10 +35,7 @@ pub struct Rest {
 fn reached<S: Side>(bound: u32, price: Option<u32>) -> bool
     ensures { result ≡ reached S.Side.rule bound price }
 {
-    match price {
-        None => false,
-        Some(p) => at_or_ahead::<S>(p, bound),
-    }
+    price.is_some_and(|p| at_or_ahead::<S>(p, bound))
 }
 
 // S is the side of the orders that the entry met.
@@ -60,13 +59,7 @@ impl Way {
     pub fn number(self) -> u8
         ensures { result ≡ way_number self }
     {
-        match self {
-            Way::Filled => 1,
-            Way::Booked => 2,
-            Way::Immediate => 3,
-            Way::AwayBest => 4,
-            Way::OwnFront => 5,
-        }
+        self as u8
     }
 
     // How many of the shares that are left are booked.
@@ -87,5 +80,15 @@ impl Way {
             Way::Filled | Way::Booked => 0,
             _ => rest,
         }
+    }
+}
+
+// As a refusal prints its number: two enums of a line each, and no trait over both.
+impl fmt::Display for Way {
+    ghost output = { λ way. Some (decimal (way_number way)) };
+
+    fn fmt<W: fmt::Write>(&self, f: &mut fmt::Formatter<W>) -> fmt::Result {
+        let number = self.number();
+        write!(f, "{number}")
     }
 }

@@ -1,22 +1,21 @@
 // What is answered to each line, by the rules.
 ghost use Rattle.std.specs.Prelude.{◌≡◌, None};
 ghost use Rattle.pricecheck.specs.Desk.{Opens, Responds, better_answer, form_answer};
+ghost use Rattle.pricecheck.specs.declared.answer.Denial.TheVariants.{Refused};
 ghost use Rattle.rules.specs.Sheets.{increment_at, unit_at};
 
 use crate::command::Command;
 use rules::form::Form;
-use rules::price::{Quote, Threshold, better_from};
+use rules::price::{BestPrices, Quote, Threshold};
 use rules::refusal::Refusal;
-use rules::sheet::DaySheet;
+use rules::sheet::{Class, DaySheet};
 use rules::side::{Asks, Bids};
 use rules::terms::Terms;
 use std::fmt;
 
 #[derive(Clone, Copy)]
 pub enum Answer {
-    Malformed,
-    NoDay,
-    Refused(Refusal),
+    // not a Class, since a definition can name these two numbers, and not the proofs that a Class holds
     Day {
         increment: u32,
         unit: u32,
@@ -31,35 +30,53 @@ pub enum Answer {
     },
 }
 
+// Why a line has no answer. Of this program alone: the other one has a market to miss.
+#[derive(Clone, Copy)]
+pub enum Denial {
+    Malformed,
+    NoDay,
+    Refused(Refusal),
+}
+
+impl From<Refusal> for Denial {
+    ghost from_gives = { λ refusal denial. denial ≡ Refused refusal };
+
+    fn from(refusal: Refusal) -> Denial {
+        Self::Refused(refusal)
+    }
+}
+
 // The day sheet in force, if there is one.
 #[derive(Drop)]
 pub struct Desk {
     day: Option<DaySheet>,
 }
 
-fn better(day: &DaySheet, best: Quote) -> Answer
-    ensures { result ≡ better_answer (increment_at day.now.closing) best }
+fn better(day: &DaySheet, quote: Quote) -> Answer
+    ensures { result ≡ better_answer (increment_at day.now.closing) quote }
 {
-    let increment = day.class().increment;
+    let best = BestPrices {
+        increment: day.class().increment,
+        quote,
+    };
     Answer::Better {
-        sale: better_from::<Bids>(increment, best),
-        purchase: better_from::<Asks>(increment, best),
+        sale: best.better_from::<Bids>(),
+        purchase: best.better_from::<Asks>(),
     }
 }
 
-fn form(day: &DaySheet, terms: Terms) -> Answer
+fn form(day: &DaySheet, terms: Terms) -> Result<Answer, Denial>
     ensures { result ≡ form_answer (increment_at day.now.closing) (unit_at day.now.closing) terms }
 {
-    match Form::write(day, terms) {
-        Err(refusal) => Answer::Refused(refusal),
-        Ok(form) => Answer::Form {
-            bound: form.bound(),
-            large: form.is_large(),
-        },
-    }
+    let form = Form::write(day, terms)?;
+    Ok(Answer::Form {
+        bound: form.bound(),
+        large: form.is_large(),
+    })
 }
 
 impl Desk {
+    // no derived default: a clause says what is made
     pub fn new() -> Desk
         ensures { result.day ≡ None }
     {
@@ -67,46 +84,23 @@ impl Desk {
     }
 
     // A day sheet that is refused leaves no day.
-    fn open_day(&mut self, closing: u32, last: u32) -> Answer
+    fn open_day(&mut self, closing: u32, last: u32) -> Result<Answer, Denial>
         ensures { Opens closing last self.new.day result }
     {
-        match DaySheet::new(closing, last) {
-            Err(refusal) => {
-                self.day = None;
-                Answer::Refused(refusal)
-            }
-            Ok(day) => {
-                self.day = Some(day);
-                let class = day.class();
-                Answer::Day {
-                    increment: class.increment,
-                    unit: class.unit,
-                }
-            }
-        }
+        self.day = None;
+        let day = DaySheet::new(closing, last)?;
+        self.day = Some(day);
+        let Class { increment, unit } = day.class();
+        Ok(Answer::Day { increment, unit })
     }
 
-    pub fn answer(&mut self, command: Command) -> Answer
+    pub fn answer(&mut self, command: Command) -> Result<Answer, Denial>
         ensures { Responds self.old.day command self.new.day result }
     {
-        match (command, self.day) {
-            (Command::Day { closing, last }, _) => self.open_day(closing, last),
-            (_, None) => Answer::NoDay,
-            (Command::Best(best), Some(day)) => better(&day, best),
-            (Command::Form(terms), Some(day)) => form(&day, terms),
-        }
-    }
-}
-
-#[derive(Drop)]
-struct Shown(Threshold);
-
-impl fmt::Display for Shown {
-    fn fmt<W: fmt::Write>(&self, f: &mut fmt::Formatter<W>) -> fmt::Result {
-        match self.0 {
-            Threshold::Any => write!(f, "any"),
-            Threshold::Never => write!(f, "none"),
-            Threshold::From(price) => write!(f, "{price}"),
+        match command {
+            Command::Day { closing, last } => self.open_day(closing, last),
+            Command::Best(quote) => Ok(better(&self.day.ok_or(Denial::NoDay)?, quote)),
+            Command::Form(terms) => form(&self.day.ok_or(Denial::NoDay)?, terms),
         }
     }
 }
@@ -114,22 +108,25 @@ impl fmt::Display for Shown {
 impl fmt::Display for Answer {
     fn fmt<W: fmt::Write>(&self, f: &mut fmt::Formatter<W>) -> fmt::Result {
         match *self {
-            Answer::Malformed => write!(f, "malformed"),
-            Answer::NoDay => write!(f, "no day"),
-            Answer::Refused(refusal) => {
-                let number = refusal.number();
-                write!(f, "refused {number}")
-            }
             Answer::Day { increment, unit } => write!(f, "day {increment} {unit}"),
-            Answer::Better { sale, purchase } => {
-                let sale = Shown(sale);
-                let purchase = Shown(purchase);
-                write!(f, "better sale {sale} purchase {purchase}")
-            }
+            Answer::Better { sale, purchase } => write!(
+                f,
+                "better sale {sale} purchase {purchase}"
+            ),
             Answer::Form { bound, large } => {
                 let size = if large { "large" } else { "small" };
                 write!(f, "form bound {bound} {size}")
             }
+        }
+    }
+}
+
+impl fmt::Display for Denial {
+    fn fmt<W: fmt::Write>(&self, f: &mut fmt::Formatter<W>) -> fmt::Result {
+        match *self {
+            Denial::Malformed => write!(f, "malformed"),
+            Denial::NoDay => write!(f, "no day"),
+            Denial::Refused(refusal) => write!(f, "refused {refusal}"),
         }
     }
 }

@@ -1,35 +1,13 @@
 // The lines that are understood.
 use rules::price::Quote;
 use rules::terms::{SideName, Terms};
-use text::fields::{read_marks, read_number};
+use text::fields::{read_number, read_price, read_terms};
 
 #[derive(Clone, Copy)]
 pub enum Command {
     Day { closing: u32, last: u32 },
     Best(Quote),
     Form(Terms),
-}
-
-// A price, or none.
-fn parse_price(field: &[u8]) -> Option<Option<u32>> {
-    match field {
-        b"none" => Some(None),
-        _ => Some(Some(read_number(field)?)),
-    }
-}
-
-fn parse_form(side: SideName, price: &[u8], shares: &[u8], marks: &[u8]) -> Option<Command> {
-    let limit = read_number(price)?;
-    let shares = read_number(shares)?;
-    let marks = read_marks(marks)?;
-    Some(Command::Form(Terms {
-        side,
-        limit,
-        shares,
-        kind: marks.kind,
-        immediate: marks.immediate,
-        directed: marks.directed,
-    }))
 }
 
 // None where the line breaks a rule.
@@ -40,11 +18,15 @@ pub fn parse(fields: &[&[u8]]) -> Option<Command> {
             last: read_number(last)?,
         }),
         [b"best", bid, ask] => Some(Command::Best(Quote {
-            bid: parse_price(bid)?,
-            ask: parse_price(ask)?,
+            bid: read_price(bid)?,
+            ask: read_price(ask)?,
         })),
-        [b"B", price, shares, marks] => parse_form(SideName::Bid, price, shares, marks),
-        [b"S", price, shares, marks] => parse_form(SideName::Ask, price, shares, marks),
+        [b"B", price, shares, marks] => {
+            read_terms(SideName::Bid, price, shares, marks).map(Command::Form)
+        }
+        [b"S", price, shares, marks] => {
+            read_terms(SideName::Ask, price, shares, marks).map(Command::Form)
+        }
         _ => None,
     }
 }

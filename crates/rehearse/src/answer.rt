@@ -1,42 +1,77 @@
 // What is answered, and how it prints.
-use market::answers::Entered;
+use market::answers::{Aside, Cancelled, Entered};
 use matching::trade::Trade;
 use rules::refusal::Refusal;
 use rules::sheet::Class;
 use runs::call::Line;
 use std::fmt;
 
-// What a market answers to a question.
 #[derive(Clone, Copy)]
-pub enum Reply {
+pub enum Answer {
+    Day(Class),
+    // the places of the four books
+    Books {
+        bids: usize,
+        asks: usize,
+        dark_bids: usize,
+        dark_asks: usize,
+    },
+    Trades(usize),
+    Sheet(Class),
+    // to a call on a market
+    Entered(Entered),
+    Cancelled(Cancelled),
+    Quoted(usize),
+    Aside(Aside),
+    Halted,
+    Resumed(usize),
+    Closed,
+    // to a question
     Best(Option<u32>),
     Front(Option<u32>),
     Shares(u64),
     Open(Option<u32>),
 }
 
+// Why a line has no answer. Of this program alone: the other one has no market to miss.
 #[derive(Clone, Copy)]
-pub enum Answer {
+pub enum Denial {
     Malformed,
     NoDay,
     NoMarket,
     Refused(Refusal),
-    Day(Class),
-    // the places of the displayed bids, the displayed asks, the dark bids and the dark asks
-    Books(usize, usize, usize, usize),
-    Trades(usize),
-    Sheet(Class),
-    // a call and its answer
-    Line(Line),
-    Reply(Reply),
 }
 
-impl Answer {
-    // How many trades follow the answer.
-    pub fn trades(&self) -> usize {
+impl From<Refusal> for Denial {
+    fn from(refusal: Refusal) -> Denial {
+        Denial::Refused(refusal)
+    }
+}
+
+// What is answered to a call, of what is noted of it.
+impl TryFrom<Line> for Answer {
+    type Error = Refusal;
+
+    fn try_from(line: Line) -> Result<Answer, Refusal> {
+        match line {
+            Line::Entry { answer, .. } => answer.map(Answer::Entered),
+            Line::Cancel { answer, .. } => answer.map(Answer::Cancelled),
+            Line::Notice { answer, .. } => answer.map(Answer::Quoted),
+            Line::SetAside { answer, .. } => answer.map(Answer::Aside),
+            Line::Halt(answer) => answer.map(|()| Answer::Halted),
+            Line::Resume(answer) => answer.map(Answer::Resumed),
+            Line::Close(answer) => answer.map(|()| Answer::Closed),
+        }
+    }
+}
+
+impl fmt::Display for Denial {
+    fn fmt<W: fmt::Write>(&self, f: &mut fmt::Formatter<W>) -> fmt::Result {
         match *self {
-            Answer::Line(line) => line.trades(),
-            _ => 0,
+            Denial::Malformed => write!(f, "malformed"),
+            Denial::NoDay => write!(f, "no day"),
+            Denial::NoMarket => write!(f, "no market"),
+            Denial::Refused(refusal) => write!(f, "refused {refusal}"),
         }
     }
 }
@@ -50,31 +85,15 @@ fn show_entered<W: fmt::Write>(entered: Entered, f: &mut fmt::Formatter<W>) -> f
         way,
         trades,
     } = entered;
-    let way = way.number();
     write!(
         f,
         "entered {number} traded {traded} booked {booked} cancelled {cancelled} way {way} trades {trades}"
     )
 }
 
-fn show_refused<W: fmt::Write>(refusal: Refusal, f: &mut fmt::Formatter<W>) -> fmt::Result {
-    let number = refusal.number();
-    write!(f, "refused {number}")
-}
-
 fn show_class<W: fmt::Write>(word: &str, class: Class, f: &mut fmt::Formatter<W>) -> fmt::Result {
-    let increment = class.increment;
-    let unit = class.unit;
+    let Class { increment, unit } = class;
     write!(f, "{word} {increment} {unit}")
-}
-
-fn show_count<W: fmt::Write>(
-    word: &str,
-    number: u32,
-    trades: usize,
-    f: &mut fmt::Formatter<W>,
-) -> fmt::Result {
-    write!(f, "{word} {number} trades {trades}")
 }
 
 fn show_or_none<W: fmt::Write>(
@@ -88,77 +107,36 @@ fn show_or_none<W: fmt::Write>(
     }
 }
 
-fn show_trades<W: fmt::Write>(
-    word: &str,
-    answer: Result<usize, Refusal>,
-    f: &mut fmt::Formatter<W>,
-) -> fmt::Result {
-    match answer {
-        Ok(trades) => write!(f, "{word} trades {trades}"),
-        Err(refusal) => show_refused(refusal, f),
-    }
-}
-
-fn show_moved<W: fmt::Write>(
-    word: &str,
-    answer: Result<(), Refusal>,
-    f: &mut fmt::Formatter<W>,
-) -> fmt::Result {
-    match answer {
-        Ok(_) => write!(f, "{word}"),
-        Err(refusal) => show_refused(refusal, f),
-    }
-}
-
-fn show_line<W: fmt::Write>(line: Line, f: &mut fmt::Formatter<W>) -> fmt::Result {
-    match line {
-        Line::Entry { answer, .. } => match answer {
-            Ok(entered) => show_entered(entered, f),
-            Err(refusal) => show_refused(refusal, f),
-        },
-        Line::Cancel { answer, .. } => match answer {
-            Ok(cancelled) => show_count("cancelled", cancelled.shares, cancelled.trades, f),
-            Err(refusal) => show_refused(refusal, f),
-        },
-        Line::SetAside { answer, .. } => match answer {
-            Ok(aside) => show_count("aside", aside.count, aside.trades, f),
-            Err(refusal) => show_refused(refusal, f),
-        },
-        Line::Notice { answer, .. } => show_trades("quoted", answer, f),
-        Line::Resume(answer) => show_trades("resumed", answer, f),
-        Line::Halt(answer) => show_moved("halted", answer, f),
-        Line::Close(answer) => show_moved("closed", answer, f),
-    }
-}
-
-fn show_reply<W: fmt::Write>(reply: Reply, f: &mut fmt::Formatter<W>) -> fmt::Result {
-    match reply {
-        Reply::Best(price) => show_or_none("best", price, f),
-        Reply::Front(price) => show_or_none("front", price, f),
-        Reply::Shares(sum) => write!(f, "shares {sum}"),
-        Reply::Open(shares) => show_or_none("open", shares, f),
-    }
-}
-
 impl fmt::Display for Answer {
     fn fmt<W: fmt::Write>(&self, f: &mut fmt::Formatter<W>) -> fmt::Result {
         match *self {
-            Answer::Malformed => write!(f, "malformed"),
-            Answer::NoDay => write!(f, "no day"),
-            Answer::NoMarket => write!(f, "no market"),
-            Answer::Refused(refusal) => show_refused(refusal, f),
             Answer::Day(class) => show_class("day", class, f),
-            Answer::Books(bids, asks, dark_bids, dark_asks) => {
-                write!(f, "books {bids} {asks} {dark_bids} {dark_asks}")
-            }
+            Answer::Books {
+                bids,
+                asks,
+                dark_bids,
+                dark_asks,
+            } => write!(f, "books {bids} {asks} {dark_bids} {dark_asks}"),
             Answer::Trades(records) => write!(f, "trades {records}"),
             Answer::Sheet(class) => show_class("sheet", class, f),
-            Answer::Line(line) => show_line(line, f),
-            Answer::Reply(reply) => show_reply(reply, f),
+            Answer::Entered(entered) => show_entered(entered, f),
+            Answer::Cancelled(Cancelled { shares, trades }) => {
+                write!(f, "cancelled {shares} trades {trades}")
+            }
+            Answer::Quoted(trades) => write!(f, "quoted trades {trades}"),
+            Answer::Aside(Aside { count, trades }) => write!(f, "aside {count} trades {trades}"),
+            Answer::Halted => write!(f, "halted"),
+            Answer::Resumed(trades) => write!(f, "resumed trades {trades}"),
+            Answer::Closed => write!(f, "closed"),
+            Answer::Best(price) => show_or_none("best", price, f),
+            Answer::Front(price) => show_or_none("front", price, f),
+            Answer::Shares(sum) => write!(f, "shares {sum}"),
+            Answer::Open(shares) => show_or_none("open", shares, f),
         }
     }
 }
 
+// A trade as a rehearsal prints it: the text is this program's, so it is no `Display` of every trade.
 #[derive(Drop)]
 pub struct TradeLine(pub Trade);
 

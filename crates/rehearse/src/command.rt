@@ -1,6 +1,8 @@
 // The lines that are understood.
+use crate::answer::Denial;
 use rules::terms::{SideName, Terms};
-use text::fields::{read_marks, read_number};
+use runs::call::Call;
+use text::fields::{read_number, read_price, read_terms};
 
 // The records of the caller's trade list.
 pub const LIST: usize = 16_384;
@@ -8,6 +10,8 @@ pub const LIST: usize = 16_384;
 // The most records of a chained book that a line may ask for.
 const MOST_RECORDS: u32 = 5_000;
 
+// What kind of book a line asks for. The test of the books names the same two kinds: neither program is a library of
+// the other.
 #[derive(Clone, Copy)]
 pub enum BookKind {
     Packed,
@@ -23,22 +27,6 @@ pub struct Plan {
     pub dark_asks: BookKind,
 }
 
-// A call on a market. A form is still to be written.
-#[derive(Clone, Copy)]
-pub enum Ask {
-    Enter(Terms),
-    Cancel(u32),
-    Notice {
-        marketplace: u32,
-        side: SideName,
-        price: Option<u32>,
-    },
-    SetAside(u32),
-    Halt,
-    Resume,
-    Close,
-}
-
 #[derive(Clone, Copy)]
 pub enum Question {
     Best(SideName),
@@ -47,30 +35,25 @@ pub enum Question {
     Open(u32),
 }
 
+// A call's form is still to be written.
 #[derive(Clone, Copy)]
 pub enum Command {
-    Malformed,
     Day { closing: u32, last: u32 },
     Books(Plan),
     Trades(usize),
     Sheet { closing: u32, last: u32 },
-    Ask(Ask),
+    Call(Call<Terms>),
     Question(Question),
 }
+
+// What a line came to.
+pub type Typed = Result<Command, Denial>;
 
 fn parse_side(field: &[u8]) -> Option<SideName> {
     match field {
         b"bid" => Some(SideName::Bid),
         b"ask" => Some(SideName::Ask),
         _ => None,
-    }
-}
-
-// A price, or none.
-fn parse_price(field: &[u8]) -> Option<Option<u32>> {
-    match field {
-        b"none" => Some(None),
-        _ => Some(Some(read_number(field)?)),
     }
 }
 
@@ -85,42 +68,28 @@ fn parse_book(field: &[u8]) -> Option<BookKind> {
     Some(BookKind::Chained(records as usize))
 }
 
-fn parse_form(side: SideName, price: &[u8], shares: &[u8], marks: &[u8]) -> Option<Ask> {
-    let limit = read_number(price)?;
-    let shares = read_number(shares)?;
-    let marks = read_marks(marks)?;
-    Some(Ask::Enter(Terms {
-        side,
-        limit,
-        shares,
-        kind: marks.kind,
-        immediate: marks.immediate,
-        directed: marks.directed,
-    }))
-}
-
-fn parse_quote(marketplace: &[u8], side: &[u8], price: &[u8]) -> Option<Ask> {
-    Some(Ask::Notice {
+fn parse_quote(marketplace: &[u8], side: &[u8], price: &[u8]) -> Option<Call<Terms>> {
+    Some(Call::Notice {
         marketplace: read_number(marketplace)?,
         side: parse_side(side)?,
-        price: parse_price(price)?,
+        price: read_price(price)?,
     })
 }
 
 // A word alone.
 fn parse_alone(word: &[u8]) -> Option<Command> {
     match word {
-        b"halt" => Some(Command::Ask(Ask::Halt)),
-        b"resume" => Some(Command::Ask(Ask::Resume)),
-        b"close" => Some(Command::Ask(Ask::Close)),
+        b"halt" => Some(Command::Call(Call::Halt)),
+        b"resume" => Some(Command::Call(Call::Resume)),
+        b"close" => Some(Command::Call(Call::Close)),
         _ => None,
     }
 }
 
 fn parse_numbered(word: &[u8], number: u32) -> Option<Command> {
     match word {
-        b"C" => Some(Command::Ask(Ask::Cancel(number))),
-        b"aside" => Some(Command::Ask(Ask::SetAside(number))),
+        b"C" => Some(Command::Call(Call::Cancel(number))),
+        b"aside" => Some(Command::Call(Call::SetAside(number))),
         b"open" => Some(Command::Question(Question::Open(number))),
         b"trades" if number as usize <= LIST => Some(Command::Trades(number as usize)),
         _ => None,
@@ -163,13 +132,13 @@ fn parse_two(word: &[u8], first: &[u8], second: &[u8]) -> Option<Command> {
 }
 
 fn parse_three(word: &[u8], first: &[u8], second: &[u8], third: &[u8]) -> Option<Command> {
-    let ask = match word {
-        b"B" => parse_form(SideName::Bid, first, second, third),
-        b"S" => parse_form(SideName::Ask, first, second, third),
-        b"quote" => parse_quote(first, second, third),
-        _ => None,
+    let call = match word {
+        b"B" => Call::Enter(read_terms(SideName::Bid, first, second, third)?),
+        b"S" => Call::Enter(read_terms(SideName::Ask, first, second, third)?),
+        b"quote" => parse_quote(first, second, third)?,
+        _ => return None,
     };
-    Some(Command::Ask(ask?))
+    Some(Command::Call(call))
 }
 
 fn parse_four(

@@ -1,7 +1,6 @@
-// The sixteen ways to make a market: each book is packed or chained, and one after the other is made and handed on
-// with those made before it.
+// Making the market that a line describes.
 use crate::answer::Answer;
-use crate::command::{BookKind, Command, Plan};
+use crate::command::{BookKind, Plan, Typed};
 use crate::desk::Desk;
 use crate::play::play;
 use crate::sheets::Sheets;
@@ -9,88 +8,61 @@ use books::book::Book;
 use books::packed::Packed;
 use chained::chained::Chained;
 use chained::record::Record;
-use market::book_set::FourBooks;
 use market::trading::Market;
 use market::venue::Venue;
+use matching::book_set::FourBooks;
+use matching::side_books::SideBooks;
 use rules::side::{Asks, Bids};
-use std::alloc::{AllocError, Global};
 use std::io;
 
-fn blank(heap: Global, records: usize) -> Result<Vec<Record>, AllocError> {
-    vec![in heap; Record::BLANK; records]
+// Makes a book of that kind and goes on with it. The book has a type of its own in each case: an enum of the two kinds
+// was tried, plain and over type parameters, and the check does not cover one that holds a book over lent records.
+macro_rules! with_book {
+    ($kind:expr, $side:ty, $desk:expr, $book:ident => $go_on:expr) => {
+        match $kind {
+            BookKind::Packed => {
+                let $book = Packed::<$side>::new();
+                $go_on
+            }
+            BookKind::Chained(n) => {
+                let mut records = vec![in $desk.heap(); Record::BLANK; n]?;
+                let $book: Chained<$side> = Chained::new(&mut records[..]);
+                $go_on
+            }
+        }
+    };
 }
 
 // Makes the market that the plan describes, and plays it. The answer is the line that ended it.
-pub fn open(desk: &mut Desk, sheets: &mut Sheets, plan: Plan) -> io::Result<Option<Command>> {
-    match plan.bids {
-        BookKind::Packed => with_bids(desk, sheets, plan, Packed::<Bids>::new()),
-        BookKind::Chained(n) => {
-            let mut records = blank(desk.heap(), n)?;
-            let book: Chained<Bids> = Chained::new(&mut records[..]);
-            with_bids(desk, sheets, plan, book)
-        }
-    }
+pub fn open(desk: &mut Desk, sheets: &mut Sheets, plan: Plan) -> io::Result<Option<Typed>> {
+    with_book!(plan.bids, Bids, desk, bids => {
+        with_book!(plan.asks, Asks, desk, asks => with_displayed(desk, sheets, plan, bids, asks))
+    })
 }
 
-fn with_bids<DB: Book<Side = Bids> + Drop>(
-    desk: &mut Desk,
-    sheets: &mut Sheets,
-    plan: Plan,
-    bids: DB,
-) -> io::Result<Option<Command>> {
-    match plan.asks {
-        BookKind::Packed => with_asks(desk, sheets, plan, bids, Packed::<Asks>::new()),
-        BookKind::Chained(n) => {
-            let mut records = blank(desk.heap(), n)?;
-            let book: Chained<Asks> = Chained::new(&mut records[..]);
-            with_asks(desk, sheets, plan, bids, book)
-        }
-    }
-}
-
-fn with_asks<DB: Book<Side = Bids> + Drop, DA: Book<Side = Asks> + Drop>(
+fn with_displayed<DB: Book<Side = Bids> + Drop, DA: Book<Side = Asks> + Drop>(
     desk: &mut Desk,
     sheets: &mut Sheets,
     plan: Plan,
     bids: DB,
     asks: DA,
-) -> io::Result<Option<Command>> {
-    match plan.dark_bids {
-        BookKind::Packed => with_dark_bids(desk, sheets, plan, bids, asks, Packed::<Bids>::new()),
-        BookKind::Chained(n) => {
-            let mut records = blank(desk.heap(), n)?;
-            let book: Chained<Bids> = Chained::new(&mut records[..]);
-            with_dark_bids(desk, sheets, plan, bids, asks, book)
-        }
-    }
+) -> io::Result<Option<Typed>> {
+    with_book!(plan.dark_bids, Bids, desk, dark_bids => {
+        with_book!(plan.dark_asks, Asks, desk, dark_asks => {
+            let bids = SideBooks {
+                displayed: bids,
+                dark: dark_bids,
+            };
+            let asks = SideBooks {
+                displayed: asks,
+                dark: dark_asks,
+            };
+            play_over(desk, sheets, bids, asks)
+        })
+    })
 }
 
-fn with_dark_bids<
-    DB: Book<Side = Bids> + Drop,
-    DA: Book<Side = Asks> + Drop,
-    KB: Book<Side = Bids> + Drop,
->(
-    desk: &mut Desk,
-    sheets: &mut Sheets,
-    plan: Plan,
-    bids: DB,
-    asks: DA,
-    dark_bids: KB,
-) -> io::Result<Option<Command>> {
-    match plan.dark_asks {
-        BookKind::Packed => {
-            let book = Packed::<Asks>::new();
-            with_books(desk, sheets, bids, asks, dark_bids, book)
-        }
-        BookKind::Chained(n) => {
-            let mut records = blank(desk.heap(), n)?;
-            let book: Chained<Asks> = Chained::new(&mut records[..]);
-            with_books(desk, sheets, bids, asks, dark_bids, book)
-        }
-    }
-}
-
-fn with_books<
+fn play_over<
     DB: Book<Side = Bids> + Drop,
     DA: Book<Side = Asks> + Drop,
     KB: Book<Side = Bids> + Drop,
@@ -98,23 +70,15 @@ fn with_books<
 >(
     desk: &mut Desk,
     sheets: &mut Sheets,
-    bids: DB,
-    asks: DA,
-    dark_bids: KB,
-    dark_asks: KA,
-) -> io::Result<Option<Command>> {
-    let opened = Answer::Books(
-        bids.places(),
-        asks.places(),
-        dark_bids.places(),
-        dark_asks.places(),
-    );
-    let books = FourBooks {
-        bids,
-        asks,
-        dark_bids,
-        dark_asks,
+    bids: SideBooks<DB, KB>,
+    asks: SideBooks<DA, KA>,
+) -> io::Result<Option<Typed>> {
+    let opened = Answer::Books {
+        bids: bids.displayed.places(),
+        asks: asks.displayed.places(),
+        dark_bids: bids.dark.places(),
+        dark_asks: asks.dark.places(),
     };
-    let mut market = Market::open(&sheets.day, books);
+    let mut market = Market::open(&sheets.day, FourBooks { bids, asks });
     play(desk, sheets, &mut market, opened)
 }

@@ -1,5 +1,5 @@
 // The day sheets in force.
-use crate::answer::Answer;
+use rules::refusal::Refusal;
 use rules::sheet::DaySheet;
 
 #[derive(Clone, Copy)]
@@ -10,32 +10,19 @@ pub struct Sheets {
     pub forms: DaySheet,
 }
 
-// A day sheet that is refused leaves no day.
-pub fn open_day(day: &mut Option<Sheets>, closing: u32, last: u32) -> Answer {
-    match DaySheet::new(closing, last) {
-        Err(refusal) => {
-            *day = None;
-            Answer::Refused(refusal)
-        }
-        Ok(sheet) => {
-            *day = Some(Sheets {
-                day: sheet,
-                forms: sheet,
-            });
-            Answer::Day(sheet.class())
-        }
-    }
-}
-
 impl Sheets {
+    // One sheet for both.
+    pub fn new(closing: u32, last: u32) -> Result<Sheets, Refusal> {
+        let sheet = DaySheet::new(closing, last)?;
+        Ok(Sheets {
+            day: sheet,
+            forms: sheet,
+        })
+    }
+
     // A sheet that is refused leaves the one for forms as it was.
-    pub fn replace(&mut self, closing: u32, last: u32) -> Answer {
-        match DaySheet::new(closing, last) {
-            Err(refusal) => Answer::Refused(refusal),
-            Ok(sheet) => {
-                self.forms = sheet;
-                Answer::Sheet(sheet.class())
-            }
-        }
+    pub fn replace(&mut self, closing: u32, last: u32) -> Result<(), Refusal> {
+        self.forms = DaySheet::new(closing, last)?;
+        Ok(())
     }
 }

@@ -1,13 +1,10 @@
 -- What a caller knows of a form from which case the answer is.
 use Rattle.std.proofs.Common.{◌≡◌, ℕ, Some, None, Ok, Err, Option, sym, refl, ap, ◌∙◌}
-use Rattle.rules.specs.Forms.{form_refusal, Written, Restated, with}
+use Rattle.rules.specs.Forms.{form_refusal, Restated, with}
 use Rattle.rules.specs.Refusals.{Answers}
-use Rattle.rules.specs.Sheets.{ClassAt, increment_at, unit_at}
 use Rattle.rules.specs.declared.form.Form.{Form}
 use Rattle.rules.specs.declared.form.HandedBack.{HandedBack}
 use Rattle.rules.specs.declared.refusal.Refusal.{Refusal}
-use Rattle.rules.specs.declared.sheet.DaySheet.{DaySheet}
-use Rattle.rules.specs.declared.terms.Terms.{Terms}
 
 module _ {X Y : Type 0} (P : X → Type 0) (Q : Refusal → Y → Type 0) where
   pub accepted : (o : Option Refusal) (x : X) → Answers o P Q (Ok x) → (o ≡ None) × P x
@@ -17,22 +14,6 @@ module _ {X Y : Type 0} (P : X → Type 0) (Q : Refusal → Y → Type 0) where
   pub refused : (o : Option Refusal) (y : Y) → Answers o P Q (Err y) → (e : Refusal) × (o ≡ Some e) × Q e y
   refused None y h = absurd h
   refused (Some e) y h = (e, refl, h)
-
--- why terms would be refused at a closing price, if they would
-abbrev pub written_refusal : (closing : ℕ) → Terms → Option Refusal
-written_refusal closing terms = form_refusal (increment_at closing) (unit_at closing) terms.limit terms.shares
-
-pub written : (sheet : DaySheet) (terms : Terms) (form : Form) → Written sheet terms (Ok form) → (written_refusal sheet.closing terms ≡ None) × ((form.terms ≡ terms) × ClassAt sheet.closing form.class)
-written sheet terms form h =
-    accepted (λ f. (f.terms ≡ terms) × ClassAt sheet.closing f.class) (λ (e f : Refusal). f ≡ e)
-    (written_refusal sheet.closing terms) form h
-
-pub not_written : (sheet : DaySheet) (terms : Terms) (f : Refusal) → Written sheet terms (Err f) → written_refusal sheet.closing terms ≡ Some f
-not_written sheet terms f h =
-    let no =
-    refused (λ (form : Form). (form.terms ≡ terms) × ClassAt sheet.closing form.class) (λ (e f : Refusal). f ≡ e)
-    (written_refusal sheet.closing terms) f h in
-    no.1 ∙ ap Some (sym no.2)
 
 -- why a form would not be restated to this price and quantity
 abbrev pub restated_refusal : Form → (limit shares : ℕ) → Option Refusal

@@ -27,6 +27,11 @@ refusal_number ShortTradeList = 18
 abbrev pub check : Bool → Refusal → Option Refusal → Option Refusal
 check passes e later = cond passes later (Some e)
 
+-- what a check answers that passes or refuses
+abbrev pub passed : Option Refusal → Result (Unit {0}) Refusal
+passed None = Ok tt
+passed (Some e) = Err e
+
 -- what a call answers: P holds of the value where no check refuses it, else Q of the refusal and the error
 abbrev pub Answers : {X Y : Type 0} → Option Refusal → (X → Type 0) → (Refusal → Y → Type 0) → Result X Y → Type 0
 Answers None P Q (Ok x) = P x

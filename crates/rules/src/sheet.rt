@@ -3,8 +3,14 @@ ghost use Rattle.std.specs.Prelude.{◌≡◌, ◌%◌, ◌≤◌};
 
 mod calls;
 
+// The highest price, in quarter cents.
+pub const HIGHEST_PRICE: u32 = 4_000_000;
+
+// The most shares of an order.
+pub const MOST_SHARES: u32 = 10_000_000;
+
 // The increment is 2 or 4 quarter cents, so it has a half; the standard unit is never 0.
-#[derive(Clone, Copy)]
+#[derive(Clone, Copy, PartialEq, Eq)]
 pub struct Class {
     pub increment: u32,
     pub unit: u32,

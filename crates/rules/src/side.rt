@@ -70,10 +70,6 @@ impl Side for Asks {
     }
 
     fn edge(best: u32, by: u32) -> Option<u64> {
-        if best > by {
-            Some(best as u64 - by as u64)
-        } else {
-            None
-        }
+        (best > by).then(|| best as u64 - by as u64)
     }
 }

@@ -1,13 +1,13 @@
 // What a member writes on an order form, before it is checked.
 
 // The side of an order or a quote: a buy stands among the bids, a sale among the asks.
-#[derive(Clone, Copy, PartialEq)]
+#[derive(Clone, Copy, PartialEq, Eq)]
 pub enum SideName {
     Bid,
     Ask,
 }
 
-#[derive(Clone, Copy, PartialEq)]
+#[derive(Clone, Copy, PartialEq, Eq)]
 pub enum Kind {
     Displayed,
     Dark,
@@ -15,7 +15,7 @@ pub enum Kind {
     HalfStep,
 }
 
-#[derive(Clone, Copy, PartialEq)]
+#[derive(Clone, Copy, PartialEq, Eq)]
 pub struct Terms {
     pub side: SideName,
     pub limit: u32,

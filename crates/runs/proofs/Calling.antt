@@ -1,5 +1,6 @@
 -- One call: what it keeps of a state, and that its tape, its records and its answer tell the same.
 use Rattle.std.proofs.Common.{◌≡◌, ℕ, ◌+◌, ◌≤◌, Bool, true, false, not, leb, [], ◌∷◌, ◌++◌, length, is_some, Some, None, Ok, Err, Option, Result, sym, refl, ap, ◌∙◌, subst, arith}
+use Rattle.std.proofs.lemmas.Option.{none-some}
 use lib.Count.{ones}
 use Rattle.std.proofs.lemmas.Bool.{leb-true}
 use Rattle.books.proofs.Past.{each_map}
@@ -7,14 +8,13 @@ use Rattle.books.specs.Histories.{Each}
 use Rattle.books.specs.Lists.{find}
 use Rattle.market.proofs.Fitting.{trades_fit}
 use Rattle.market.specs.Bounds.{SoundBooks}
-use Rattle.market.specs.Calls.{State, Done, unless, with_books, with_phase, with_quotes, look, look_in, then_look, list_checked, first_checked, valid_quote, is_marketplace, not_closed, not_halted, cancel_refusal, shares_of, notice_refusal, aside_refusal, resume_refusal}
-use Rattle.market.specs.Quoting.{away_of, quoted, dropped, with_aside, is_aside}
-use Rattle.market.specs.Sets.{find_in, find_either, first_found, unless_found, without_in}
+use Rattle.market.specs.Calls.{State, Done, unless, with_books, with_phase, with_quotes, look, look_in, then_look, list_checked, first_checked, valid_quote, not_closed, not_halted, cancel_refusal, shares_of, notice_refusal, aside_refusal, resume_refusal}
+use Rattle.market.specs.Quoting.{is_marketplace, away_of, quoted, dropped, with_aside, is_aside}
+use Rattle.matching.specs.Sets.{find_in, find_either, first_found, unless_found, without_in}
 use Rattle.market.specs.declared.answers.Aside.{Aside}
 use Rattle.market.specs.declared.answers.Cancelled.{Cancelled}
 use Rattle.market.specs.declared.phase.Phase.{Phase}
 use Rattle.market.specs.declared.phase.Phase.TheVariants.{Open, Halted, Closed}
-use Rattle.matching.proofs.Fronts.{none_some}
 use Rattle.matching.specs.Looking.{Books, pair_in, standing_in, looked}
 use Rattle.matching.specs.Trades.{Steps}
 use Rattle.rules.specs.Refusals.{check}
@@ -77,7 +77,7 @@ refused_kept s n l sane silent = record {
 
 pub check_none : (b : Bool) (e : Refusal) (later : Option Refusal) → check b e later ≡ None → (b ≡ true) × (later ≡ None)
 check_none true e later h = (refl, h)
-check_none false e later h = absurd (none_some (sym h))
+check_none false e later h = absurd (none-some _ (sym h))
 
 two_passed : (a b : Bool) (x y : Refusal) (later : Option Refusal) → check a x (check b y later) ≡ None → later ≡ None
 two_passed a b x y later h = (check_none b y later (check_none a x (check b y later) h).1).1

@@ -5,7 +5,7 @@ use Rattle.books.specs.declared.standing.Standing.{Standing}
 use Rattle.market.proofs.Fitting.{trades_fit}
 use Rattle.market.specs.Calls.{State, unless, with_books, with_issued, not_closed, not_halted, is_displayed, entry_of, entry_refusal, placed_at, booked_at, entered_by}
 use Rattle.market.specs.Quoting.{away_of}
-use Rattle.market.specs.Sets.{own_rule, own_room, own_list, room_left, facing, seen_from}
+use Rattle.matching.specs.Sets.{own_rule, own_room, own_list, room_left, facing, seen_from}
 use Rattle.market.specs.declared.phase.Phase.{Phase}
 use Rattle.market.specs.declared.phase.Phase.TheVariants.{Open, Halted, Closed}
 use Rattle.matching.specs.Looking.{Books, standing_in}

@@ -1,7 +1,7 @@
 -- Both sides by one argument: what the rule of a side gives, and four books as an order of one side sees them.
 use Rattle.std.proofs.Common.{◌≡◌, ℕ, ◌≤◌, Bool, true, false, Option, refl, arith}
 use Rattle.std.proofs.lemmas.Bool.Decides.{nat_tests}
-use Rattle.market.specs.Sets.{met_rule, own_rule, own_list, seen_from, facing}
+use Rattle.matching.specs.Sets.{met_rule, own_rule, own_list, seen_from, facing}
 use Rattle.matching.specs.Looking.{Books}
 use Rattle.matching.specs.Placing.{View}
 use Rattle.matching.specs.declared.trade.Trade.{Trade}

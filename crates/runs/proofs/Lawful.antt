@@ -7,7 +7,7 @@ use Rattle.books.specs.Histories.{Each}
 use Rattle.books.specs.Lists.{AllSound}
 use Rattle.books.specs.declared.standing.Standing.{Standing}
 use Rattle.market.specs.Calls.{State, fresh}
-use Rattle.market.specs.Sets.{Rooms}
+use Rattle.matching.specs.Sets.{Rooms}
 use Rattle.matching.specs.Looking.{Books}
 use Rattle.matching.specs.Trades.{written}
 use Rattle.matching.specs.declared.trade.Trade.{Trade}
@@ -18,6 +18,7 @@ use Rattle.runs.proofs.Looking.{neat_unmet, neat_below}
 use Rattle.runs.proofs.Neat.{Neat}
 use Rattle.runs.proofs.Taping.{Moments, replay_append, trades_append, moments_append, every_trade, Given}
 use Rattle.runs.proofs.Withdrawing.{amount_in, open_amount}
+use Rattle.rules.specs.declared.form.Form.{Form}
 use Rattle.runs.specs.Days.{Made, made, happened, wrote, Asked, Day, day}
 use Rattle.runs.specs.Law.{entered_in, cancelled_in, traded_in, tally_in, Orderly, LawOfRuns}
 use Rattle.runs.specs.Tapes.{Tape, replay_all, trades_in}
@@ -26,7 +27,7 @@ use Rattle.runs.specs.declared.call.Call.TheVariants.{Enter, Cancel, Notice, Set
 use Rattle.runs.specs.declared.call.Line.{Line}
 use Rattle.runs.specs.declared.call.Line.TheVariants as line
 
-pub call_kept : (s : State) (n : ℕ) → Sane s → (call : Call) → CallKept s n (made s call n) (happened s call n)
+pub call_kept : (s : State) (n : ℕ) → Sane s → (call : Call Form) → CallKept s n (made s call n) (happened s call n)
 call_kept s n sane (Enter form) = enter_kept s n sane form
 call_kept s n sane (Cancel number) = cancel_kept s n sane number
 call_kept s n sane (Notice m side price) = notice_kept s n sane m side price

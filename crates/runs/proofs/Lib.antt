@@ -12,5 +12,4 @@ pub mod Taping
 pub mod Calling
 pub mod Entering
 pub mod Lawful
-pub mod Noting
 pub mod Progress

@@ -1,19 +1,20 @@
 -- Looking over the books, pair by pair.
 use Rattle.std.proofs.Common.{◌≡◌, ℕ, ◌+◌, ◌<◌, ◌≤◌, Bool, true, false, cond, ◌&&◌, ltb, List, [], ◌∷◌, Some, None, Option, sym, refl, ap, ◌∙◌, subst, inl, inr, ⊎_elim, arith}
+use Rattle.std.proofs.lemmas.Option.{none-some, same_Some}
 use Rattle.std.proofs.lemmas.Bool.{cases_Bool, both_ways, and_from, not_from_false, ltb-true, le-ltb}
 use Rattle.std.proofs.lemmas.Bool.Decides.{nat_tests}
 use Rattle.books.proofs.Past.{each_map}
-use Rattle.books.specs.Ranks.{before}
+use Rattle.books.proofs.Ranks.{before}
 use Rattle.books.specs.Arranging.{tally}
 use Rattle.books.specs.Histories.{Each, Pairs}
 use Rattle.books.specs.Lists.{AllSound, sound, front_of, taken}
 use Rattle.books.specs.declared.standing.Standing.{Standing}
 use Rattle.market.specs.Calls.{State}
 use Rattle.market.specs.Quoting.{away_of}
-use Rattle.market.specs.Sets.{met_rule, own_rule, seen_from, facing}
-use Rattle.matching.proofs.Fronts.{none_some, some_same, sound_shares}
+use Rattle.matching.specs.Sets.{met_rule, own_rule, seen_from, facing}
+use Rattle.matching.proofs.Fronts.{sound_shares}
 use Rattle.matching.proofs.Pairs.{kept_some, either, look_falls, AllKept}
-use Rattle.matching.specs.Looking.{Books, best_in, trade_of, pair, either_pair, pair_in, paired, pair_step, look_step, standing_in, looked}
+use Rattle.matching.specs.Looking.{Books, best_in, trade_of, pair, either_pair, pair_in, paired, trade_in, pair_step, look_step, standing_in, looked}
 use Rattle.matching.specs.Matching.{front_price, at_or_ahead}
 use Rattle.matching.specs.Placing.{View}
 use Rattle.matching.specs.Trades.{Step}
@@ -37,16 +38,16 @@ use Rattle.runs.specs.Tapes.{trade_made}
 
 module _ (rule : Rule) (increment : ℕ) (best : Quote) where
   pub pair_fronts : (own dark : List Standing) (t : Trade) → pair rule increment best own dark ≡ Some t → (d : Standing) × (k : Standing) × (front_of own ≡ Some d) × (front_of dark ≡ Some k) × (trade_of d k ≡ t)
-  pair_fronts [] dark t is = absurd (none_some is)
-  pair_fronts (d ∷ ds) [] t is = absurd (none_some is)
+  pair_fronts [] dark t is = absurd (none-some _ is)
+  pair_fronts (d ∷ ds) [] t is = absurd (none-some _ is)
   pair_fronts (d ∷ ds) (k ∷ ks) t is = (d, k, refl, refl, kept_some (at_or_ahead rule k.price d.price && better rule increment best k.price) (trade_of d k) t is)
 
 sound_number : (o : Standing) → sound o ≡ true → 1 ≤ o.number
 sound_number o is = grind (arith, nat_tests)
 
 front_shares : (os : List Standing) (o : Standing) → AllSound os → front_of os ≡ Some o → 0 < o.shares
-front_shares [] o s e = absurd (none_some e)
-front_shares (x ∷ xs) o s e = subst (λ y. 0 < y.shares) (some_same e) (sound_shares x s.0)
+front_shares [] o s e = absurd (none-some _ e)
+front_shares (x ∷ xs) o s e = subst (λ y. 0 < y.shares) (same_Some _ _ e) (sound_shares x s.0)
 
 module _ (side : SideName) (issued : ℕ) (v : View) (neat : NeatView side issued v) (d k : Standing) (t : Trade) (own_front : front_of v.own ≡ Some d) (dark_front : front_of v.dark ≡ Some k) (is : trade_of d k ≡ t) where
   q_some : 0 < t.shares
@@ -144,15 +145,17 @@ module _ (increment : ℕ) (away : Quote) (issued : ℕ) (two : 2 ≤ increment)
         weighed = λ m. omega (arith, pair_weighed side issued v n f.0 f.1 t f.2 f.3 f.4 m, amount_seen side left m, amount_facing side b m);
       }
 
-  look_stepped : (b : Books) (o : Option Pair) (s : Step Books) → pair_in increment away b ≡ o → pair_step b o ≡ Some s → Neat issued b → StepOf b s
-  look_stepped b None s is step neat = absurd (none_some step)
-  look_stepped b (Some p) s is step neat =
-      let whole : (c : Books) → c ≡ paired p b → StepOf b (record { trade = p.trade; after = c }) → StepOf b s =
-      λ c e h. subst (StepOf b) (some_same step) (subst (λ r. StepOf b (record { trade = p.trade; after = r })) e h) in
+  paired_stepped : (b : Books) (p : Pair) → pair_in increment away b ≡ Some p → Neat issued b → StepOf b (record { trade = trade_in p; after = paired p b })
+  paired_stepped b p is neat =
+      let Step : Pair → Type 0 = λ q. StepOf b (record { trade = trade_in q; after = paired q b }) in
       elim (either increment away (pair bids increment (best_in away b) b.asks b.dark_bids) (pair asks increment (best_in away b) b.bids b.dark_asks) p is) [
-        | inl h ↦ whole _ (let sale = h.1 in rw sale) (pair_stepped Ask b p.trade neat h.0)
-        | inr h ↦ whole _ (let sale = h.1 in rw sale) (pair_stepped Bid b p.trade neat h.0)
+        | inl h ↦ subst Step (sym h.2) (pair_stepped Ask b h.0 neat h.1)
+        | inr h ↦ subst Step (sym h.2) (pair_stepped Bid b h.0 neat h.1)
       ]
+
+  look_stepped : (b : Books) (o : Option Pair) (s : Step Books) → pair_in increment away b ≡ o → pair_step b o ≡ Some s → Neat issued b → StepOf b s
+  look_stepped b None s is step neat = absurd (none-some _ step)
+  look_stepped b (Some p) s is step neat = subst (StepOf b) (same_Some _ _ step) (paired_stepped b p is neat)
 
   pub look_went : (b : Books) → Neat issued b → Went (look_step increment away) (λ c. c) trade_made (Neat issued) (PairedIn increment away issued) amount_in b (looked increment away b)
   look_went b neat =
@@ -163,7 +166,7 @@ module _ (increment : ℕ) (away : Quote) (issued : ℕ) (two : 2 ≤ increment)
 
 step_none : (b : Books) (o : Option Pair) → pair_step b o ≡ None → o ≡ None
 step_none b None e = refl
-step_none b (Some p) e = absurd (none_some (sym e))
+step_none b (Some p) e = absurd (none-some _ (sym e))
 
 pub no_pair_left : (increment : ℕ) (away : Quote) (b : Books) → AllKept b → pair_in increment away (looked increment away b).state ≡ None
 no_pair_left increment away b kept =
@@ -206,7 +209,7 @@ module _ (rule own_side : Rule) (law : Lawful rule) (opposite_is : (p q : ℕ) �
   none_behind r same x xs sorted = (same x.price, each_map (StandsBefore r x) (λ y. r.ahead y.price x.price ≡ false) (λ y b. b.0) xs sorted.0)
 
   pair_none : (d k : Standing) (b : Bool) → cond b (Some (trade_of d k)) None ≡ None → b ≡ false
-  pair_none d k true e = absurd (none_some (sym e))
+  pair_none d k true e = absurd (none-some _ (sym e))
   pair_none d k false e = refl
 
   each_any : (Q : Standing → Type 0) (ys : List Standing) → ((y : Standing) → Q y) → Each Q ys
@@ -231,8 +234,8 @@ asks_further p q best by h k = grind (arith, nat_tests)
 
 either_none : (sale purchase : Option Trade) → either_pair sale purchase ≡ None → (sale ≡ None) × (purchase ≡ None)
 either_none None None e = (refl, refl)
-either_none None (Some t) e = absurd (none_some (sym e))
-either_none (Some t) purchase e = absurd (none_some (sym e))
+either_none None (Some t) e = absurd (none-some _ (sym e))
+either_none (Some t) purchase e = absurd (none-some _ (sym e))
 
 pub neat_unmet : (s : State) → Neat s.issued s.books → pair_in s.increment (away_of s.quotes) s.books ≡ None → NoneMeets s
 neat_unmet s neat none =

@@ -1,14 +1,15 @@
 -- Lists of standing orders when shares are taken from an order by its number, and when one is put in.
 use Rattle.std.proofs.Common.{◌≡◌, ℕ, ◌+◌, ◌-◌, ◌<◌, ◌≤◌, Bool, true, false, cond, eqb, List, [], ◌∷◌, Some, sym, refl, ap, ◌∙◌, subst, arith}
+use Rattle.std.proofs.lemmas.Option.{none-some, same_Some}
 use Rattle.std.proofs.lemmas.Bool.{eq-eqb, eqb-true, ne_eqb, cond-true, cond_both, both_ways}
 use Rattle.books.proofs.Past.{each_map, each_put}
-use Rattle.books.specs.Ranks.{not_both, before}
+use Rattle.books.proofs.Ranks.{not_both, before}
 use Rattle.books.specs.Arranging.{tally}
 use Rattle.books.specs.Histories.{Each, Pairs}
 use Rattle.books.specs.Lists.{AllSound, front_of, find, put, less, reduced, taken, sound}
 use Rattle.books.specs.declared.standing.Standing.{Standing}
 use Rattle.market.proofs.Fitting.{put_sound}
-use Rattle.matching.proofs.Fronts.{none_some, some_same, taken_is, taken_sound}
+use Rattle.matching.proofs.Fronts.{taken_is, taken_sound}
 use Rattle.matching.specs.declared.trade.Trade.{Trade}
 use Rattle.rules.specs.Sides.{Rule, Lawful}
 use Rattle.runs.specs.Law.{StandsBefore, if_number}
@@ -149,8 +150,8 @@ put_good rule law k o xs new is g = (
 -- The same of any list with the order in front
 
 pub at_front : (o : Standing) (P : List Standing → Type 0) → ((os : List Standing) → P (o ∷ os)) → (os : List Standing) → front_of os ≡ Some o → P os
-at_front o P h [] e = absurd (none_some e)
-at_front o P h (x ∷ xs) e = subst (λ y. P (y ∷ xs)) (sym (some_same e)) (h xs)
+at_front o P h [] e = absurd (none-some _ e)
+at_front o P h (x ∷ xs) e = subst (λ y. P (y ∷ xs)) (sym (same_Some _ _ e)) (h xs)
 
 -- What a trade does to a list: nothing where neither number stands, and where one of them is in front its shares go
 

@@ -1,16 +1,17 @@
 -- Matching an entry, trade by trade.
 use Rattle.std.proofs.Common.{◌≡◌, ℕ, ◌+◌, ◌-◌, ◌<◌, ◌≤◌, Bool, true, false, cond, eqb, List, [], ◌∷◌, Some, None, Option, sym, refl, ap, ◌∙◌, subst, arith}
+use Rattle.std.proofs.lemmas.Option.{none-some, same_Some}
 use Rattle.std.proofs.lemmas.Bool.{ne_eqb}
 use Rattle.books.proofs.Past.{each_map}
 use Rattle.books.specs.Arranging.{tally}
 use Rattle.books.specs.Histories.{Each}
 use Rattle.books.specs.Lists.{front_of, taken}
 use Rattle.books.specs.declared.standing.Standing.{Standing}
-use Rattle.market.specs.Sets.{met_rule, seen_from}
-use Rattle.matching.proofs.Fronts.{none_some, some_same, shares_open, candidate_front}
+use Rattle.matching.specs.Sets.{met_rule, seen_from}
+use Rattle.matching.proofs.Fronts.{shares_open, candidate_front}
 use Rattle.matching.proofs.Turns.{standing, stands, fewer, positive, holds_shares, Sounds, after_sound}
 use Rattle.matching.specs.Looking.{Books}
-use Rattle.matching.specs.Matching.{Scene, front_price, candidate, trade_with, traded, trade_step, match_step, matched}
+use Rattle.matching.specs.Matching.{Scene, front_price, candidate, trade_with, traded, trade_step, match_step, matched, order_in, is_dark}
 use Rattle.matching.specs.Placing.{View}
 use Rattle.matching.specs.Trades.{Step}
 use Rattle.matching.specs.declared.candidate.Around.{Around}
@@ -36,19 +37,19 @@ module _ (rule : Rule) (entry : Entry) (around : Around) where
   left scene = cond (eqb scene.shares 0) 0 (standing scene)
 
   left_falls : (scene : Scene) (o : Option Candidate) (s : Step Scene) → candidate rule entry around scene ≡ o → trade_step entry scene o ≡ Some s → Sounds rule entry around scene → Sounds rule entry around s.after × (left s.after < left scene)
-  left_falls scene None s is step sounds = absurd (none_some step)
+  left_falls scene None s is step sounds = absurd (none-some _ step)
   left_falls scene (Some c) s is step sounds =
       let t = trade_with entry c scene.shares in
       let front = candidate_front rule entry around scene c is in
       let some = shares_open rule entry around scene c is in
       let P : Bool → Type 0 = λ b. eqb (traded t scene).shares 0 ≡ b → cond b 0 (standing (traded t scene)) < left scene in
       let open_now : eqb scene.shares 0 ≡ false = ne_eqb scene.shares 0 (λ e. let no : ⊥ = omega arith in no) in
-      let stands_one : 0 < standing scene = stands c.order scene.displayed scene.dark c.dark front in
-      subst (λ r. Sounds rule entry around r.after × (left r.after < left scene)) (some_same step) (
-        after_sound rule entry around t c.dark scene sounds,
+      let stands_one : 0 < standing scene = stands (order_in c) scene.displayed scene.dark (is_dark c) front in
+      subst (λ r. Sounds rule entry around r.after × (left r.after < left scene)) (same_Some _ _ step) (
+        after_sound rule entry around t (is_dark c) scene sounds,
         elim (eqb (traded t scene).shares 0) as P [
           | true ↦ λ _. rw open_now (omega arith)
-          | false ↦ λ e. rw open_now (omega (arith, fewer c.order scene.displayed scene.dark sounds.0 sounds.1 c.dark scene.shares front some (positive (traded t scene).shares e)))
+          | false ↦ λ e. rw open_now (omega (arith, fewer (order_in c) scene.displayed scene.dark sounds.0 sounds.1 (is_dark c) scene.shares front some (positive (traded t scene).shares e)))
         ] refl,
       )
 
@@ -57,7 +58,7 @@ module _ (rule : Rule) (entry : Entry) (around : Around) where
 
   step_none : (scene : Scene) (o : Option Candidate) → trade_step entry scene o ≡ None → o ≡ None
   step_none scene None e = refl
-  step_none scene (Some c) e = absurd (none_some (sym e))
+  step_none scene (Some c) e = absurd (none-some _ (sym e))
 
   pub no_candidate_left : (scene : Scene) → Sounds rule entry around scene → candidate rule entry around (matched rule entry around scene).state ≡ None
   no_candidate_left scene sounds =
@@ -71,7 +72,7 @@ module _ (side : SideName) (entry : Entry) (increment : ℕ) (away : Quote) (own
   rule = met_rule side
 
   abbrev pub around : Around
-  around = record { increment = increment; behind = front_price own; away = away }
+  around = record { away = record { increment = increment; quote = away }; behind = front_price own }
 
   abbrev view_of : Scene → View
   view_of scene = record { displayed = scene.displayed; dark = scene.dark; own = own; own_dark = own_dark }
@@ -146,24 +147,24 @@ module _ (side : SideName) (entry : Entry) (increment : ℕ) (away : Quote) (own
           omega arith
 
     match_stepped : (scene : Scene) (o : Option Candidate) (s : Step Scene) → candidate rule entry around scene ≡ o → trade_step entry scene o ≡ Some s → Fit scene → Stepped (match_step rule entry around) books_of trade_made Fit (MatchedIn increment away entry.large entry.number) weigh scene s
-    match_stepped scene None s is step fit = absurd (none_some step)
+    match_stepped scene None s is step fit = absurd (none-some _ step)
     match_stepped scene (Some c) s is step fit =
         let t = trade_with entry c scene.shares in
         let front = candidate_front rule entry around scene c is in
         let open_so : 0 < scene.shares = shares_open rule entry around scene c is in
-        let some : 0 < c.order.shares = holds_shares c.order scene.displayed scene.dark fit.displayed_good.1 fit.dark_good.1 c.dark front in
+        let some : 0 < (order_in c).shares = holds_shares (order_in c) scene.displayed scene.dark fit.displayed_good.1 fit.dark_good.1 (is_dark c) front in
         let q : 0 < t.shares = omega arith in
-        let within : t.shares ≤ c.order.shares = omega arith in
-        subst (Stepped (match_step rule entry around) books_of trade_made Fit (MatchedIn increment away entry.large entry.number) weigh scene) (some_same step)
+        let within : t.shares ≤ (order_in c).shares = omega arith in
+        subst (Stepped (match_step rule entry around) books_of trade_made Fit (MatchedIn increment away entry.large entry.number) weigh scene) (same_Some _ _ step)
         record {
-          kept = kept_at scene fit c.order t refl refl q within c.dark front;
-          goes = ap (seen_from side) (goes_at scene fit c.order t refl refl q within c.dark front) ∙ sym (seen_made side t (view_of scene));
+          kept = kept_at scene fit (order_in c) t refl refl q within (is_dark c) front;
+          goes = ap (seen_from side) (goes_at scene fit (order_in c) t refl refl q within (is_dark c) front) ∙ sym (seen_made side t (view_of scene));
           judged = (
             seen_judged side increment away entry.large (view_of scene) t
                 (match_judged rule (met_lawful side) (best_is side) entry increment away own scene c two fit.displayed_good.0 is),
             refl,
           );
-          weighed = weighed_at scene fit c.order t refl refl q within c.dark front (omega arith);
+          weighed = weighed_at scene fit (order_in c) t refl refl q within (is_dark c) front (omega arith);
         }
 
     pub match_went : (scene : Scene) → Fit scene → Went (match_step rule entry around) books_of trade_made Fit (MatchedIn increment away entry.large entry.number) weigh scene (matched rule entry around scene)

@@ -4,7 +4,7 @@ use Rattle.books.proofs.Past.{each_both}
 use Rattle.books.specs.Arranging.{tally}
 use Rattle.books.specs.Histories.{Each}
 use Rattle.books.specs.declared.standing.Standing.{Standing}
-use Rattle.market.specs.Sets.{met_rule, own_rule, seen_from, facing}
+use Rattle.matching.specs.Sets.{met_rule, own_rule, seen_from, facing}
 use Rattle.matching.specs.Looking.{Books}
 use Rattle.matching.specs.Placing.{View}
 use Rattle.rules.specs.declared.terms.SideName.{SideName}

@@ -7,7 +7,7 @@ use Rattle.books.specs.Arranging.{tally}
 use Rattle.books.specs.Histories.{Each, Pairs}
 use Rattle.books.specs.Lists.{sound, stands, find, put, added}
 use Rattle.books.specs.declared.standing.Standing.{Standing}
-use Rattle.market.specs.Sets.{met_rule, own_rule, seen_from}
+use Rattle.matching.specs.Sets.{met_rule, own_rule, seen_from}
 use Rattle.matching.proofs.Turns.{matched_shares}
 use Rattle.matching.specs.Matching.{Scene, front_price, match_step}
 use Rattle.matching.specs.Placing.{View, Placed, around_in, met, rest_of, is_booked, booked_in, placed}

@@ -2,7 +2,7 @@
 use Rattle.std.proofs.Common.{◌≡◌, ℕ, ◌-◌, min, Bool, true, false, List, [], ◌∷◌, ◌++◌, length, take, is_ok, is_err, Ok, Err, Result, sym, refl, ap, ◌∙◌, subst, append_assoc, append-nil, arith, length-append, length-take}
 use Rattle.std.proofs.lemmas.Bool.{both_ways}
 use Rattle.market.specs.Calls.{State, fresh}
-use Rattle.market.specs.Sets.{Rooms}
+use Rattle.matching.specs.Sets.{Rooms}
 use Rattle.matching.specs.declared.trade.Trade.{Trade}
 use Rattle.rules.specs.declared.sheet.DaySheet.{DaySheet}
 use Rattle.runs.specs.Days.{Asked, made, wrote, day}
@@ -95,10 +95,6 @@ module _ (start : State) (longest : ℕ) (turns rest : List Turn) (lines : List 
 
 pub lent_part : (end lent longest : ℕ) (list : List Trade) → end ≡ min lent (length list) → length list ≡ longest → length (take (end - 0) list) ≡ min lent longest
 lent_part end lent longest list is long = omega (arith, length-take (end - 0) list)
-
-pub none_left : (turns : List Turn) (n : ℕ) → n ≡ length turns → n ≡ 0 → turns ≡ []
-none_left [] n is none = refl
-none_left (turn ∷ turns) n is none = absurd (let no : ⊥ = omega arith in no)
 
 pub not_ok : {X E : Type 0} (r : Result X E) → is_err r ≡ true → is_ok r ≡ true → ⊥
 not_ok (Ok x) bad good = both_ways false refl bad

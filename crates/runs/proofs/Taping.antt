@@ -4,7 +4,7 @@ use Rattle.std.proofs.lemmas.Bool.{eq-eqb, cases_lt}
 use Rattle.books.specs.Lists.{find}
 use Rattle.market.specs.Calls.{State, with_books}
 use Rattle.market.specs.Quoting.{away_of}
-use Rattle.market.specs.Sets.{own_rule, own_list}
+use Rattle.matching.specs.Sets.{own_rule, own_list}
 use Rattle.matching.specs.Looking.{Books}
 use Rattle.matching.specs.Matching.{front_price}
 use Rattle.matching.specs.declared.trade.Trade.{Trade}

@@ -7,7 +7,7 @@ use Rattle.books.specs.Histories.{Each}
 use Rattle.books.specs.Lists.{AllSound, find, without, removed_found}
 use Rattle.books.specs.declared.standing.Standing.{Standing}
 use Rattle.market.specs.Calls.{shares_of}
-use Rattle.market.specs.Sets.{first_found, find_either, find_in, unless_found, without_in}
+use Rattle.matching.specs.Sets.{first_found, find_either, find_in, unless_found, without_in}
 use Rattle.matching.specs.Looking.{Books}
 use Rattle.rules.specs.Sides.{Rule}
 use Rattle.runs.proofs.Lowering.{amount, Good}

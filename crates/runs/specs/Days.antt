@@ -27,7 +27,7 @@ abbrev pub noted : {X : Type 0} → (Result X Refusal → Line) → Done X → M
 noted line done = record { line = line done.answer; state = done.state; trades = done.trades }
 
 -- a call that is lent a list of n records
-abbrev pub made : State → Call → (n : ℕ) → Made
+abbrev pub made : State → Call Form → (n : ℕ) → Made
 made s (Enter form) n = noted (line.Entry form.terms form.class) (entered s form n)
 made s (Cancel number) n = noted (line.Cancel number) (cancelled s number n)
 made s (Notice m side price) n = noted (line.Notice m side price) (noticed s m side price n)
@@ -61,7 +61,7 @@ entry_tape s form =
     tape.numbered (s.issued + 1) form
     ∷ (trading (placed_at s form).trades ++ (ending form (s.issued + 1) (placed_at s form) ++ trading (looked_after s form).trades))
 
-abbrev pub happened : State → Call → (n : ℕ) → Tape
+abbrev pub happened : State → Call Form → (n : ℕ) → Tape
 happened s (Enter form) n = if_taken (entered s form n).answer (entry_tape s form)
 happened s (Cancel number) n = if_taken (cancelled s number n).answer (tape.withdrawn number ∷ trading (cancelled s number n).trades)
 happened s (Notice m side price) n = if_taken (noticed s m side price n).answer (tape.noticed m side price ∷ trading (noticed s m side price n).trades)
@@ -87,7 +87,7 @@ count_in (line.Close answer) = 0
 
 -- a call, and the list of records that it is lent, whatever they hold
 pub record Asked : Type 0 where
-  pub call : Call
+  pub call : Call Form
   pub list : List Trade
 
 -- the records that it wrote: as many as its line tells, from the front of the list as the call left it

@@ -6,7 +6,7 @@ use Rattle.books.specs.Lists.{find}
 use Rattle.books.specs.declared.standing.Standing.{Standing}
 use Rattle.market.specs.Calls.{State, fresh, shares_of}
 use Rattle.market.specs.Quoting.{away_of}
-use Rattle.market.specs.Sets.{Rooms, own_list, own_rule, find_in}
+use Rattle.matching.specs.Sets.{Rooms, own_list, own_rule, find_in}
 use Rattle.market.specs.declared.phase.Phase.TheVariants.{Open}
 use Rattle.matching.specs.Looking.{Books, best_in}
 use Rattle.matching.specs.declared.trade.Trade.{Trade}

@@ -1,7 +1,7 @@
 -- What playing a list of calls hands back.
 use Rattle.std.specs.Prelude.{◌≡◌, ℕ, min, Bool, true, List, [], ◌∷◌, length}
 use Rattle.market.specs.Calls.{State, fresh}
-use Rattle.market.specs.Sets.{Rooms}
+use Rattle.matching.specs.Sets.{Rooms}
 use Rattle.market.specs.declared.trading.Market.{Market}
 use Rattle.matching.specs.Looking.{Books}
 use Rattle.matching.specs.declared.trade.Trade.{Trade}

@@ -5,7 +5,7 @@ use Rattle.books.specs.Lists.{put, less}
 use Rattle.books.specs.declared.standing.Standing.{Standing}
 use Rattle.market.specs.Calls.{State, with_books, with_issued, with_phase, with_quotes}
 use Rattle.market.specs.Quoting.{quoted, dropped, with_aside}
-use Rattle.market.specs.Sets.{without_in}
+use Rattle.matching.specs.Sets.{without_in}
 use Rattle.market.specs.declared.phase.Phase.{Phase}
 use Rattle.matching.specs.Looking.{Books}
 use Rattle.matching.specs.declared.trade.Trade.{Trade}

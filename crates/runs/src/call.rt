@@ -3,15 +3,16 @@ ghost use Rattle.std.specs.Prelude.{◌≡◌};
 ghost use Rattle.runs.specs.Days.{count_in};
 
 use market::answers::{Aside, Cancelled, Entered};
-use rules::form::Form;
 use rules::refusal::Refusal;
 use rules::sheet::Class;
 use rules::terms::{SideName, Terms};
 
-#[derive(Drop)]
-pub enum Call {
-    Enter(Form),
+// An entry has a form, or what is to become one.
+#[derive(Clone, Copy, Drop)]
+pub enum Call<F> {
+    Enter(F),
     Cancel(u32),
+    // three fields, as the function of the interface has three parameters: a struct of them would be taken apart there
     Notice {
         marketplace: u32,
         side: SideName,
@@ -56,22 +57,10 @@ impl Line {
         ensures { result ≡ count_in self.now }
     {
         match *self {
-            Line::Entry { answer, .. } => match answer {
-                Ok(entered) => entered.trades,
-                Err(_) => 0,
-            },
-            Line::Cancel { answer, .. } => match answer {
-                Ok(cancelled) => cancelled.trades,
-                Err(_) => 0,
-            },
-            Line::SetAside { answer, .. } => match answer {
-                Ok(aside) => aside.trades,
-                Err(_) => 0,
-            },
-            Line::Notice { answer, .. } | Line::Resume(answer) => match answer {
-                Ok(trades) => trades,
-                Err(_) => 0,
-            },
+            Line::Entry { answer, .. } => answer.map_or(0, |entered| entered.trades),
+            Line::Cancel { answer, .. } => answer.map_or(0, |cancelled| cancelled.trades),
+            Line::SetAside { answer, .. } => answer.map_or(0, |aside| aside.trades),
+            Line::Notice { answer, .. } | Line::Resume(answer) => answer.unwrap_or(0),
             Line::Halt(_) | Line::Close(_) => 0,
         }
     }

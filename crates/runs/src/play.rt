@@ -1,5 +1,6 @@
 // Making a call, and playing a list of them.
 ghost use Rattle.std.specs.Prelude.{◌≡◌, [], ◌∷◌, ◌++◌, length, is_ok, if◌then◌else◌};
+ghost use Rattle.market.specs.Calls.{entered};
 ghost use Rattle.matching.specs.Trades.{written};
 ghost use Rattle.runs.specs.Days.{made, wrote};
 ghost use Rattle.runs.specs.Plays.{Plays, PlaysDay, state_with};
@@ -8,17 +9,19 @@ use crate::call::{Call, Line};
 use crate::journal::Journal;
 use crate::turn::Turn;
 use books::book::Book;
-use market::book_set::FourBooks;
+use market::answers::Entered;
 use market::trading::Market;
 use market::venue::Venue;
+use matching::book_set::FourBooks;
 use matching::trade::Trade;
 use rules::form::Form;
+use rules::refusal::Refusal;
 use rules::sheet::DaySheet;
 use rules::side::{Asks, Bids};
 use std::alloc::{AllocError, Global};
 
 // Makes the call on the market, and notes what was answered.
-pub fn make<V: Venue>(market: &mut V, call: Call, list: &mut [Trade]) -> Line
+pub fn make<V: Venue>(market: &mut V, call: Call<Form>, list: &mut [Trade]) -> Line
     ensures line { result ≡ (made (V.Venue.state market.old) call (length list.old)).line }
     ensures state { V.Venue.state market.new ≡ (made (V.Venue.state market.old) call (length list.old)).state }
     ensures list { list.new ≡ written (made (V.Venue.state market.old) call (length list.old)).trades list.old }
@@ -56,10 +59,7 @@ fn enter<V: Venue>(market: &mut V, form: Form, list: &mut [Trade]) -> Line
 {
     let terms = form.terms();
     let class = form.class();
-    let answer = match market.enter(form, list) {
-        Ok(entered) => Ok(entered),
-        Err(back) => Err(back.refusal),
-    };
+    let answer = answer_entry(market, form, list);
     Line::Entry {
         terms,
         class,
@@ -67,10 +67,23 @@ fn enter<V: Venue>(market: &mut V, form: Form, list: &mut [Trade]) -> Line
     }
 }
 
+// A form that is handed back is let go.
+fn answer_entry<V: Venue>(
+    market: &mut V,
+    form: Form,
+    list: &mut [Trade],
+) -> Result<Entered, Refusal>
+    ensures answer { result ≡ (entered (V.Venue.state market.old) form (length list.old)).answer }
+    ensures state { V.Venue.state market.new ≡ (entered (V.Venue.state market.old) form (length list.old)).state }
+    ensures list { list.new ≡ written (entered (V.Venue.state market.old) form (length list.old)).trades list.old }
+{
+    Ok(market.enter(form, list)?)
+}
+
 // Makes a call and notes it. Where there is no memory to note it, the call is not made.
 fn play_call<V: Venue>(
     market: &mut V,
-    call: Call,
+    call: Call<Form>,
     lent: &mut [Trade],
     journal: &mut Journal,
 ) -> Result<(), AllocError>
@@ -96,8 +109,7 @@ fn play_turns<V: Venue>(
     requires trades { journal.old.trades.items ≡ [] }
     ensures { Plays (V.Venue.state market.old) (length list.old) turns.items (is_ok result) journal.new.lines.items journal.new.trades.items (V.Venue.state market.new) }
 {
-    let mut rest = turns.into_iter();
-    while let Some(turn) = rest.next() {
+    for turn in turns {
         let end = turn.lent.min(list.len());
         play_call(market, turn.call, &mut list[0..end], journal)?;
     }
@@ -132,7 +144,8 @@ fn play_over<V: Venue>(
     }
 }
 
-// Opens a market over any four books and plays the turns. The law of every run holds of what is handed back.
+// Opens a market over any four books and plays the turns. The law of every run holds of what is handed back. The clause
+// reads the state off the market and its books, with no word of ours between.
 pub fn play<
     DB: Book<Side = Bids>,
     DA: Book<Side = Asks>,
@@ -145,7 +158,7 @@ pub fn play<
     turns: Vec<Turn>,
     list: &mut [Trade],
 ) -> Played<Market<FourBooks<DB, DA, KB, KA>>>
-    ensures { PlaysDay sheet.now (record { bids = DB.Book.room books.bids; asks = DA.Book.room books.asks; dark_bids = KB.Book.room books.dark_bids; dark_asks = KA.Book.room books.dark_asks }) (length list.old) turns.items (is_ok result.done) result.journal.lines.items result.journal.trades.items (state_with result.market (record { bids = DB.Book.orders result.market.books.bids; asks = DA.Book.orders result.market.books.asks; dark_bids = KB.Book.orders result.market.books.dark_bids; dark_asks = KA.Book.orders result.market.books.dark_asks }) (record { bids = DB.Book.room result.market.books.bids; asks = DA.Book.room result.market.books.asks; dark_bids = KB.Book.room result.market.books.dark_bids; dark_asks = KA.Book.room result.market.books.dark_asks })) }
+    ensures { PlaysDay sheet.now (record { bids = DB.Book.room books.bids.displayed; asks = DA.Book.room books.asks.displayed; dark_bids = KB.Book.room books.bids.dark; dark_asks = KA.Book.room books.asks.dark }) (length list.old) turns.items (is_ok result.done) result.journal.lines.items result.journal.trades.items (state_with result.market (record { bids = DB.Book.orders result.market.books.bids.displayed; asks = DA.Book.orders result.market.books.asks.displayed; dark_bids = KB.Book.orders result.market.books.bids.dark; dark_asks = KA.Book.orders result.market.books.asks.dark }) (record { bids = DB.Book.room result.market.books.bids.displayed; asks = DA.Book.room result.market.books.asks.displayed; dark_bids = KB.Book.room result.market.books.bids.dark; dark_asks = KA.Book.room result.market.books.asks.dark })) }
 {
     play_over(heap, sheet, books, turns, list)
 }

@@ -1,7 +1,10 @@
--- How a field is read: a number, and the marks of an order. A field is a list of bytes.
-use Rattle.std.specs.Prelude.{ℕ, ◌+◌, ◌-◌, ◌*◌, ◌^◌, Bool, true, false, cond, ◌&&◌, List, [], ◌∷◌, length, Some, None, Option, ◌==◌, nat_le, nat_lt}
+-- How a field is read: a number, a price, and the marks of an order. A field is a list of bytes.
+use Rattle.std.specs.Prelude.{ℕ, ◌+◌, ◌-◌, ◌*◌, ◌^◌, Bool, true, false, cond, ◌&&◌, List, [], ◌∷◌, length, codes, option_map, Some, None, Option, ◌==◌, nat_le, nat_lt}
+use Rattle.std.specs.Cmp.Lexicographic.{pointwise}
 use Rattle.rules.specs.declared.terms.Kind.{Kind}
 use Rattle.rules.specs.declared.terms.Kind.TheVariants.{Displayed, Dark, HalfStep}
+use Rattle.rules.specs.declared.terms.SideName.{SideName}
+use Rattle.rules.specs.declared.terms.Terms.{Terms}
 use Rattle.text.specs.declared.fields.Marks.{Marks}
 
 abbrev pub is_digit : ℕ → Bool
@@ -20,6 +23,10 @@ within_32_bits (Some n) = cond (nat_lt n (2 ^ 32)) (Some n) None
 abbrev pub number_in : List ℕ → Option ℕ
 number_in bs = cond (nat_le 1 (length bs) && nat_le (length bs) 10) (within_32_bits (digits_after 0 bs)) None
 
+-- a number, or none
+abbrev pub price_in : List ℕ → Option (Option ℕ)
+price_in bs = cond (pointwise ◌==◌ bs (codes "none")) (Some None) (option_map Some (number_in bs))
+
 abbrev pub marked : Kind → Bool → Bool → Option Marks
 marked kind immediate directed = Some record { kind = kind; immediate = immediate; directed = directed }
 
@@ -36,3 +43,20 @@ marks_in [] = None
 marks_in (b ∷ bs) =
     cond (b == 76) (marks_after Displayed bs)
     (cond (b == 75) (marks_after Dark bs) (cond (b == 72) (marks_after HalfStep bs) None))
+
+-- the terms of an order on this side, where each of its fields can be read
+abbrev pub terms_of : SideName → (limit shares : Option ℕ) → Option Marks → Option Terms
+terms_of side None shares marks = None
+terms_of side (Some limit) None marks = None
+terms_of side (Some limit) (Some shares) None = None
+terms_of side (Some limit) (Some shares) (Some marks) = Some record {
+  side = side;
+  limit = limit;
+  shares = shares;
+  kind = marks.kind;
+  immediate = marks.immediate;
+  directed = marks.directed;
+}
+
+abbrev pub terms_in : SideName → (price shares marks : List ℕ) → Option Terms
+terms_in side price shares marks = terms_of side (number_in price) (number_in shares) (marks_in marks)

@@ -1,8 +1,8 @@
 // The fields that every program reads.
 ghost use Rattle.std.specs.Prelude.{◌≡◌};
-ghost use Rattle.text.specs.Fields.{number_in, marks_in, marks_after};
+ghost use Rattle.text.specs.Fields.{number_in, price_in, marks_in, marks_after, terms_in};
 
-use rules::terms::Kind;
+use rules::terms::{Kind, SideName, Terms};
 
 #[derive(Clone, Copy)]
 pub struct Marks {
@@ -15,20 +15,27 @@ pub struct Marks {
 pub fn read_number(field: &[u8]) -> Option<u32>
     ensures { result ≡ number_in field.now }
 {
-    if field.len() < 1 || field.len() > 10 {
+    if field.is_empty() || field.len() > 10 {
         return None;
     }
     let mut n: u64 = 0;
     for b in field {
-        if *b < b'0' || *b > b'9' {
+        if !b.is_ascii_digit() {
             return None;
         }
         n = n * 10 + (*b - b'0') as u64;
     }
-    if n >= 1 << 32 {
-        return None;
+    u32::try_from(n).ok()
+}
+
+// A price, or none.
+pub fn read_price(field: &[u8]) -> Option<Option<u32>>
+    ensures { result ≡ price_in field.now }
+{
+    match field {
+        b"none" => Some(None),
+        _ => read_number(field).map(Some),
     }
-    Some(n as u32)
 }
 
 // What follows the letter of the kind.
@@ -62,4 +69,25 @@ pub fn read_marks(field: &[u8]) -> Option<Marks>
         b'H' => marks_after(Kind::HalfStep, rest),
         _ => None,
     }
+}
+
+// What the fields of an order say.
+pub fn read_terms(side: SideName, price: &[u8], shares: &[u8], marks: &[u8]) -> Option<Terms>
+    ensures { result ≡ terms_in side price.now shares.now marks.now }
+{
+    let limit = read_number(price)?;
+    let shares = read_number(shares)?;
+    let Marks {
+        kind,
+        immediate,
+        directed,
+    } = read_marks(marks)?;
+    Some(Terms {
+        side,
+        limit,
+        shares,
+        kind,
+        immediate,
+        directed,
+    })
 }

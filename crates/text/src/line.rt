@@ -4,6 +4,7 @@ ghost use Rattle.text.specs.Lines.{cut_after, Reads};
 
 use std::alloc::{AllocError, Global};
 
+// Three cases, where a `Result` has two.
 #[derive(Drop)]
 pub enum Line<'a> {
     // empty, or a comment: nothing is answered
@@ -17,28 +18,15 @@ pub enum Line<'a> {
 fn cut(heap: Global, body: &[u8]) -> Result<Vec<&[u8]>, AllocError>
     ensures { IfOk result (λ v. map (λ field. field.now) v.items ≡ cut_after [] body.now) }
 {
-    let mut fields = Vec::new(heap);
-    let mut start = 0;
-    for i in 0..body.len() {
-        if body[i] == b' ' {
-            fields.push(&body[start..i])?;
-            start = i + 1;
-        }
-    }
-    fields.push(&body[start..])?;
-    Ok(fields)
+    body.split(|b| *b == b' ').collect(heap)
 }
 
 pub fn read_line(heap: Global, bytes: &[u8]) -> Result<Line<'_>, AllocError>
     ensures { IfOk result (λ line. Reads bytes.now line) }
 {
-    let n = bytes.len();
-    if n == 0 || bytes[n - 1] != b'\n' {
-        return Ok(Line::Unended);
+    match bytes {
+        [b'\n'] | [b'#', .., b'\n'] => Ok(Line::Quiet),
+        [body @ .., b'\n'] => Ok(Line::Fields(cut(heap, body)?)),
+        _ => Ok(Line::Unended),
     }
-    let body = &bytes[0..n - 1];
-    if body.is_empty() || body[0] == b'#' {
-        return Ok(Line::Quiet);
-    }
-    Ok(Line::Fields(cut(heap, body)?))
 }

@@ -1,13 +1,13 @@
 // The calls of a chained book.
-ghost use Rattle.std.specs.Prelude.{◌≡◌, ◌-◌, min, [], length, drop, nat_lt};
-ghost use Rattle.books.specs.Lists.{most_places, sound};
+ghost use Rattle.std.specs.Prelude.{◌≡◌, ◌-◌, Bool, ◌==◌, min, [], length, drop};
+ghost use Rattle.books.specs.Lists.{most_places};
+ghost use Rattle.books.specs.declared.standing.Standing.{Standing};
 ghost use Rattle.chained.specs.Laws.{held_kept};
-ghost use Rattle.chained.specs.Records.{most_records, orders_in, room_in};
+ghost use Rattle.chained.specs.Records.{most_records, orders_in, room_in, found, before_found, Means};
 
 use crate::chained::Chained;
 use crate::chains::{Chains, Spot};
 use crate::record::Record;
-use crate::walk::{Behind, Numbered};
 use books::book::Book;
 use books::standing::Standing;
 use rules::refusal::Refusal;
@@ -17,14 +17,6 @@ use std::marker::PhantomData;
 // 4,096 places and the anchor
 const MOST_RECORDS: usize = 4097;
 
-const MOST_SHARES: u32 = 10_000_000;
-
-fn is_sound(order: Standing) -> bool
-    ensures { result ≡ sound order }
-{
-    order.number >= 1 && order.price >= 1 && order.shares >= 1 && order.shares <= MOST_SHARES
-}
-
 // How many of the records that are lent serve the book.
 fn serving(lent: usize) -> usize
     ensures { result ≡ min lent most_records }
@@ -32,7 +24,7 @@ fn serving(lent: usize) -> usize
     lent.min(MOST_RECORDS)
 }
 
-// What is done with a book while it has the records.
+// What is done with a book while it has the records. A trait and no closure: of a closure `lend` would ask that it may be called.
 pub trait Task<S: Side> {
     type Answer;
 
@@ -66,10 +58,31 @@ impl<'a, S: Side> Chained<'a, S> {
         }
     }
 
-    fn has_space(&self) -> bool
-        ensures { result ≡ nat_lt (length (orders_in self.now.chains.records.now)) (room_in self.now.chains.records.now) }
+    // The spot of the first order that passes, or behind the last order.
+    fn seek<F: Fn(Standing) -> bool>(&self, passes: F) -> Spot
+        requires { F.IsAlwaysCallable passes }
+        ensures before { (meant : Standing → Bool) → Means (F.post passes) meant → result.before ≡ before_found meant self.now.chains.records.now }
+        ensures here { (meant : Standing → Bool) → Means (F.post passes) meant → result.here ≡ found meant self.now.chains.records.now }
     {
-        self.count() < self.places()
+        let mut before = 0;
+        let mut here = self.chains.first();
+        while here != 0 {
+            let record = self.chains.at(here);
+            if passes(record.order) {
+                return Spot { before, here };
+            }
+            before = here;
+            here = record.next;
+        }
+        Spot { before, here }
+    }
+
+    // The spot of the order with that number, or behind the last order.
+    fn spot_of(&self, number: u32) -> Spot
+        ensures before { result.before ≡ before_found (λ order. order.number == number) self.now.chains.records.now }
+        ensures here { result.here ≡ found (λ order. order.number == number) self.now.chains.records.now }
+    {
+        self.seek(|order| order.number == number)
     }
 }
 
@@ -91,45 +104,40 @@ impl<S: Side> Book for Chained<'_, S> {
     }
 
     fn places(&self) -> usize {
-        let records = self.chains.records.len();
-        if records == 0 { 0 } else { records - 1 }
+        self.chains.records.len().saturating_sub(1)
     }
 
     fn front(&self) -> Option<Standing> {
-        self.chains.front()
+        self.chains.order_at(self.chains.first())
     }
 
     fn find(&self, number: u32) -> Option<Standing> {
-        self.chains.find(number)
+        self.chains.order_at(self.spot_of(number).here)
     }
 
+    // a walk of its own, since `seek` stops at an order: the links lead on, and no index is counted
     fn shares_at(&self, price: u32) -> u64 {
-        self.chains.shares_at(price)
+        let mut sum = 0;
+        let mut here = self.chains.first();
+        while here != 0 {
+            let record = self.chains.at(here);
+            if record.order.price == price {
+                sum += u64::from(record.order.shares);
+            }
+            here = record.next;
+        }
+        sum
     }
 
     fn add(&mut self, order: Standing) -> Result<(), Refusal> {
-        if !is_sound(order) || self.chains.find(order.number).is_some() {
-            return Err(Refusal::BadOrder);
-        }
-        if !self.has_space() {
-            return Err(Refusal::BookFull);
-        }
-        let behind: Behind<S> = Behind {
-            price: order.price,
-            side: PhantomData,
-        };
-        let spot = self.chains.seek(&behind);
+        self.check_add(order)?;
+        let spot = self.seek(|other| S::comes_first(order.price, other.price));
         self.chains.link(spot.before, order);
         Ok(())
     }
 
     fn take(&mut self, shares: u32) -> Result<(), Refusal> {
-        let Some(order) = self.chains.front() else {
-            return Err(Refusal::BadTake);
-        };
-        if shares == 0 || shares > order.shares {
-            return Err(Refusal::BadTake);
-        }
+        let order = self.check_take(shares)?;
         let here = self.chains.first();
         if shares == order.shares {
             self.chains.unlink(Spot { before: 0, here });
@@ -140,7 +148,7 @@ impl<S: Side> Book for Chained<'_, S> {
     }
 
     fn remove(&mut self, number: u32) -> Result<u32, Refusal> {
-        let spot = self.chains.seek(&Numbered(number));
+        let spot = self.spot_of(number);
         if spot.here == 0 {
             return Err(Refusal::NotStanding);
         }

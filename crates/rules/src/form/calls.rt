@@ -12,12 +12,7 @@ impl Form {
         ensures { Written sheet.now terms result }
     {
         let class = sheet.class();
-        if !class.is_price(terms.limit) {
-            return Err(Refusal::BadPrice);
-        }
-        if !class.is_quantity(terms.shares) {
-            return Err(Refusal::BadQuantity);
-        }
+        class.check(terms.limit, terms.shares)?;
         Ok(Form { terms, class })
     }
 
@@ -26,15 +21,10 @@ impl Form {
         ensures { Restated self limit shares result }
     {
         let class = self.class;
-        if !class.is_price(limit) {
+        // no `?`, since a refused form goes back
+        if let Err(refusal) = class.check(limit, shares) {
             return Err(HandedBack {
-                refusal: Refusal::BadPrice,
-                form: self,
-            });
-        }
-        if !class.is_quantity(shares) {
-            return Err(HandedBack {
-                refusal: Refusal::BadQuantity,
+                refusal,
                 form: self,
             });
         }
@@ -77,5 +67,14 @@ impl Form {
     {
         let shares = self.terms.shares as u64;
         shares > 50 * self.class.unit as u64 || self.terms.limit as u64 * shares > 40_000_000
+    }
+}
+
+// For a caller that lets the form go.
+impl From<HandedBack> for Refusal {
+    ghost from_gives = { λ back refusal. refusal ≡ back.refusal };
+
+    fn from(back: HandedBack) -> Refusal {
+        back.refusal
     }
 }

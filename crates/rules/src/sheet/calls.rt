@@ -1,15 +1,26 @@
-ghost use Rattle.std.specs.Prelude.{◌≡◌};
-ghost use Rattle.rules.specs.Prices.{valid_price, valid_quantity};
+ghost use Rattle.std.specs.Prelude.{◌≡◌, ◌<◌};
+ghost use Rattle.rules.specs.Prices.{multiple, valid_price, valid_quantity};
+ghost use Rattle.rules.specs.Forms.{form_refusal};
+ghost use Rattle.rules.specs.Refusals.{Answers};
 ghost use Rattle.rules.specs.Sheets.{Made, ClassAt};
 
 use crate::refusal::Refusal;
-use crate::sheet::{Class, DaySheet};
+use crate::sheet::{Class, DaySheet, HIGHEST_PRICE, MOST_SHARES};
+
+// A multiple of the step, from 1 to the most.
+fn is_multiple(step: u32, most: u32, n: u32) -> bool
+    requires { 0 < step }
+    ensures { result ≡ multiple step most n }
+{
+    (1..=most).contains(&n) && n % step == 0
+}
 
 impl DaySheet {
+    // Two numbers, and no struct of them: a sheet is what they become.
     pub fn new(closing: u32, last: u32) -> Result<DaySheet, Refusal>
         ensures { Made closing last result }
     {
-        if closing < 1 || closing > 4_000_000 {
+        if !(1..=HIGHEST_PRICE).contains(&closing) {
             return Err(Refusal::BadClosingPrice);
         }
         if last < 1 {
@@ -49,12 +60,25 @@ impl Class {
     pub fn is_price(&self, price: u32) -> bool
         ensures { result ≡ valid_price self.now.increment price }
     {
-        price >= 1 && price <= 4_000_000 && price % self.increment == 0
+        is_multiple(self.increment, HIGHEST_PRICE, price)
     }
 
     pub fn is_quantity(&self, shares: u32) -> bool
         ensures { result ≡ valid_quantity self.now.unit shares }
     {
-        shares >= 1 && shares <= 10_000_000 && shares % self.unit == 0
+        is_multiple(self.unit, MOST_SHARES, shares)
+    }
+
+    // What every form checks, the price first.
+    pub(crate) fn check(&self, limit: u32, shares: u32) -> Result<(), Refusal>
+        ensures { Answers (form_refusal self.now.increment self.now.unit limit shares) (λ _. Unit {0}) (λ e f. f ≡ e) result }
+    {
+        if !self.is_price(limit) {
+            return Err(Refusal::BadPrice);
+        }
+        if !self.is_quantity(shares) {
+            return Err(Refusal::BadQuantity);
+        }
+        Ok(())
     }
 }

@@ -1,12 +1,12 @@
-use Rattle.std.proofs.Common.{◌∙◌, arith}
+use Rattle.std.proofs.Common.{arith}
 use Rattle.market.proofs.Handled.{placed_few, looked_few, handled_both}
 use Rattle.market.proofs.steps.handle.Goals as goal
 
 pub overflow_add-result : goal.overflow_add-result
 overflow_add-result g c =
     let a = c.args in
-    let placed = placed_few a.side a.increment a.away (g.Q.BookSet.rooms a.books.now) a.active.now (g.Q.BookSet.lists a.books.now) in
-    let looked = looked_few a.increment a.away (g.Q.BookSet.lists c.place-ended.new.self) in
+    let placed = placed_few a.side a.away.increment a.away.quote (g.Q.BookSet.rooms a.books.now) a.active.now (g.Q.BookSet.lists a.books.now) in
+    let looked = looked_few a.away.increment a.away.quote (g.Q.BookSet.lists c.place-ended.new.self) in
     omega (
       arith,
       placed,
@@ -17,12 +17,8 @@ overflow_add-result g c =
       g.met.Q.BookSet.few c.place-ended.new.self,
     )
 
-pub returns : goal.returns
-returns g c =
-    record {
-      handles =
-          handled_both c.args.side c.args.increment c.args.away _ c.args.list.now c.place-ended.new.list c.look_over-looked.new.list
-          c.min-at.result (g.Q.BookSet.lists c.place-ended.new.self) _ c.place-ended.result c.look_over-looked.result
-          c.place-ended.ensures.places c.min-at.ensures c.look_over-looked.ensures.looks;
-      rooms = c.look_over-looked.ensures.rooms ∙ c.place-ended.ensures.rooms;
-    }
+pub returns-clause-handles : goal.returns-clause-handles
+returns-clause-handles g c =
+    handled_both c.args.side c.args.away.increment c.args.away.quote _ c.args.list.now c.place-ended.new.list c.look_over-looked.new.list
+    c.min-at.result (g.Q.BookSet.lists c.place-ended.new.self) _ c.place-ended.result c.look_over-looked.result
+    c.place-ended.ensures.places c.min-at.ensures c.look_over-looked.ensures.looks

@@ -1,4 +1,4 @@
-use Rattle.std.proofs.Common.{sym, refl, ◌∙◌, arith}
+use Rattle.std.proofs.Common.{sym, refl, ◌∙◌}
 use Rattle.matching.specs.Matching.{Scene}
 use Rattle.matching.proofs.Turns.{turning_none, turning_more, turning_all, shares_fall}
 use Rattle.matching.proofs.entry.match_entry.Goals as goal
@@ -6,23 +6,17 @@ use Rattle.matching.proofs.entry.match_entry.Goals as goal
 pub loop-candidate-init : goal.loop-candidate-init
 loop-candidate-init g c = (turning_none g.D.Side.Side.rule c.args.active.now c.args.around.now _ c.args.list.now, refl, refl)
 
-pub overflow_add-trades : goal.overflow_add-trades
-overflow_add-trades g c =
-    let d = g.met.D.Book.kept c.args.displayed.now in
-    let k = g.met.K.Book.kept c.args.dark.now in
-    omega (arith, c.loop-candidate.invariant.0.so_far.within, d.0, d.1, k.0, k.1)
-
 pub loop-candidate-smaller : goal.loop-candidate-smaller
 loop-candidate-smaller g c =
-    let scene : Scene = record { displayed = g.D.Book.orders c.loop-candidate.displayed; dark = g.K.Book.orders c.loop-candidate.dark; shares = c.loop-candidate.shares } in
+    let scene : Scene = record { displayed = g.D.Book.orders c.loop-candidate.met.displayed; dark = g.K.Book.orders c.loop-candidate.met.dark; shares = c.loop-candidate.shares } in
     shares_fall g.D.Side.Side.rule c.args.active.now c.args.around.now scene c.in-Some.candidate _ (sym c.in-Some.ensures)
-    (g.met.D.Book.kept c.loop-candidate.displayed).2 (g.met.K.Book.kept c.loop-candidate.dark).2 c.trade_with-trade.ensures
+    (g.met.D.Book.kept c.loop-candidate.met.displayed).2 (g.met.K.Book.kept c.loop-candidate.met.dark).2 c.trade_with-trade.ensures
 
 pub loop-candidate-preserved : goal.loop-candidate-preserved
 loop-candidate-preserved g c =
-    let scene : Scene = record { displayed = g.D.Book.orders c.loop-candidate.displayed; dark = g.K.Book.orders c.loop-candidate.dark; shares = c.loop-candidate.shares } in (
+    let scene : Scene = record { displayed = g.D.Book.orders c.loop-candidate.met.displayed; dark = g.K.Book.orders c.loop-candidate.met.dark; shares = c.loop-candidate.shares } in (
       turning_more g.D.Side.Side.rule c.args.active.now c.args.around.now scene c.in-Some.candidate _ (sym c.in-Some.ensures)
-          (g.met.D.Book.kept c.loop-candidate.displayed).2 (g.met.K.Book.kept c.loop-candidate.dark).2 c.trade_with-trade.ensures
+          (g.met.D.Book.kept c.loop-candidate.met.displayed).2 (g.met.K.Book.kept c.loop-candidate.met.dark).2 c.trade_with-trade.ensures
           _ _ _ _ _ _ _ c.loop-candidate.invariant.0 c.make_trade.ensures.displayed c.make_trade.ensures.dark c.make_trade.ensures.list,
       c.make_trade.ensures.places.0 ∙ c.loop-candidate.invariant.1,
       c.make_trade.ensures.places.1 ∙ c.loop-candidate.invariant.2,

@@ -1,15 +1,12 @@
-use Rattle.std.proofs.Common.{Some, sym, ap, ◌∙◌}
-use Rattle.books.specs.ArrangingLemmas.{find_place, absent_arranged}
+use Rattle.std.proofs.Common.{rules, ◌≡◌, Some, None, MatchOption, slice_index_or}
+use Rattle.books.specs.Packing.{blank}
+use Rattle.books.proofs.Arranged.{found_place}
+use Rattle.books.proofs.Front.{match_map}
 use Rattle.books.proofs.packed.PackedBook.find.Goals as goal
 
-pub returns-in-Some : goal.returns-in-Some
-returns-in-Some g c =
+pub returns : goal.returns
+returns g c =
     let b = c.args.self.now in
-    ap Some c.at.ensures ∙
-    sym
-    (find_place g.S.Side.rule b.arrivals (b.size, b.within, b.sound, b.distinct) c.args.number c.in-Some.index
-    c.in-Some.ensures)
-
-pub returns-in-None : goal.returns-in-None
-returns-in-None g c =
-    sym (absent_arranged g.S.Side.rule c.args.self.now.arrivals c.args.number c.in-None.ensures)
+    let said : MatchOption c.index_of.result (c.map.result ≡ None) (λ i. c.map.result ≡ Some (slice_index_or b.arrivals i blank)) =
+    match_map c.index_of.result _ _ _ (λ i p. search rules) c.map.ensures.cases in
+    found_place g.S.Side.rule b.arrivals b.distinct c.args.number c.map.result (rw c.index_of.ensures at said)

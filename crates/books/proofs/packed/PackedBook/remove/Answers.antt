@@ -1,45 +1,31 @@
-use Rattle.std.proofs.Common.{Some, sym, refl, ap, ◌∙◌, subst}
-use Rattle.books.specs.Arranging.{arranged}
-use Rattle.books.specs.Lists.{removed_found}
-use Rattle.books.specs.Packing.{held}
-use Rattle.books.specs.ArrangingLemmas.{find_place, absent_arranged, gone_place}
-use Rattle.books.proofs.Outcomes.{removed_is}
-use Rattle.books.specs.Spots.{Good, good_closed}
+use Rattle.std.proofs.Common.{rules, ◌≡◌, Some, None, sym, subst, position}
+use Rattle.std.proofs.lemmas.List.Quantifiers.{position-Some}
+use Rattle.books.specs.Packing.{blank}
+use Rattle.books.proofs.Arranged.{numbered}
+use Rattle.books.proofs.Calls.{remove_none, remove_at}
+use Rattle.books.proofs.Keeping.{Good, kept_removed}
 use Rattle.books.proofs.packed.PackedBook.remove.Goals as goal
 
-pub returns-in_default : goal.returns-in_default
-returns-in_default g c =
-    let v = c.args.self.now.arrivals in
-    let rule = g.S.Side.rule in
-    let e =
-    ap (λ f. removed_found f c.args.number (arranged rule (held v)))
-    (absent_arranged rule v c.args.number c.in_default.ensures) in
-    record { answer = sym (ap (λ r. r.answer) e); list = sym (ap (λ r. r.list) e); places = refl {a = 32} }
+pub returns-in_err-index : goal.returns-in_err-index
+returns-in_err-index g c =
+    let n = c.args.number in
+    let none : position (numbered n) c.args.self.now.arrivals ≡ None = search rules in
+    let e = remove_none g.S.Side.rule c.args.self.now.arrivals n none in
+    search rules
 
 pub invariant_of-self : goal.invariant_of-self
 invariant_of-self g c =
     let b = c.args.self.now in
-    let k =
-    subst Good (sym c.close_up.ensures.left)
-    (good_closed b.arrivals (b.size, b.within, b.sound, b.distinct) c.in-Some.index c.in-Some.ensures.0) in
-    record { size = k.0; within = k.1; sound = k.2; distinct = k.3 }
+    let i = c.in_ok-index.index in
+    let at : position (numbered c.args.number) b.arrivals ≡ Some i = search rules in
+    let below = (position-Some (numbered c.args.number) b.arrivals i blank at).0 in
+    let k = subst Good (sym c.close_up.ensures.left) (kept_removed b.arrivals (b.within, b.sound, b.distinct) i below) in
+    record { within = k.0; sound = k.1; distinct = k.2 }
 
 pub returns : goal.returns
 returns g c =
     let b = c.args.self.now in
-    let v = b.arrivals in
-    let good : Good v = (b.size, b.within, b.sound, b.distinct) in
-    let rule = g.S.Side.rule in
-    let n = c.args.number in
-    let p = c.in-Some.ensures in
-    let e =
-    removed_is (arranged rule (held v)) c.close_up.result n
-    (find_place rule v good n c.in-Some.index p ∙ sym (ap Some c.close_up.ensures.answer)) in
-    record {
-      answer = sym (ap (λ r. r.answer) e);
-      list =
-          ap (λ a. arranged rule (held a)) c.close_up.ensures.left ∙
-          gone_place rule v good g.met.S.Side.lawful n c.in-Some.index p ∙
-          sym (ap (λ r. r.list) e);
-      places = refl {a = 32};
-    }
+    let i = c.in_ok-index.index in
+    let at : position (numbered c.args.number) b.arrivals ≡ Some i = search rules in
+    let e = remove_at g.S.Side.rule b.arrivals b.distinct g.met.S.Side.lawful c.args.number i at in
+    search rules

@@ -1,5 +1,5 @@
-use Rattle.std.proofs.Common.{◌-◌, ◌≤◌, length, take, arith, length-take}
-use Rattle.chained.proofs.Held.{held_cleared, orders_cleared}
+use Rattle.std.proofs.Common.{rules, ◌-◌, ◌≤◌, length, take, arith, length-take}
+use Rattle.chained.proofs.Held.{held_cleared}
 use Rattle.chained.proofs.chained.Chained.new.Goals as goal
 
 pub invariant_of-result : goal.invariant_of-result
@@ -9,12 +9,4 @@ invariant_of-result g c =
     let k =
     held_cleared c.clear.new.self.records.now (length (take (c.serving-end.result - 0) c.args.records.now)) c.clear.new.self.count
     n c.clear.ensures.records c.clear.ensures.count in
-    record { few = k.0; counted = k.1.0; apart = k.1.1.0; whole = k.1.1.1.0; sound = k.1.1.1.1.0 }
-
-pub returns : goal.returns
-returns g c = record {
-  list = orders_cleared c.clear.new.self.records.now (length (take (c.serving-end.result - 0) c.args.records.now)) c.clear.ensures.records;
-  places =
-      let many = c.clear.ensures.records.many in
-      omega (arith, c.serving-end.ensures, length-take (c.serving-end.result - 0) c.args.records.now, many);
-}
+    search rules

@@ -1,24 +1,21 @@
-use Rattle.std.proofs.Common.{◌≡◌, take, sym, ap, ◌∙◌, arith}
-use Rattle.std.proofs.lemmas.Bool.Decides.{nat_tests}
-use Rattle.books.specs.Arranging.{arranged}
-use Rattle.books.specs.Lists.{front_of}
-use Rattle.books.specs.ArrangingLemmas.{front_more}
+use Rattle.std.proofs.Common.{rules, ◌≡◌, ◌+◌, cond, take, Some, IsTrue, MatchOption, sym, ap, subst, ◌∙◌}
+use Rattle.books.specs.Packing.{Front}
+use Rattle.books.proofs.Front.{Ahead, match_map, front_step}
 use Rattle.books.proofs.packed.arrivals.Arrivals.front_index.Goals as goal
-use Rattle.books.proofs.packed.arrivals.Arrivals.front_index.Goals.{then-comes_first, else-comes_first}
+use Rattle.books.proofs.packed.arrivals.Arrivals.front_index.Goals.{then-is_none_or, else-is_none_or}
 
 pub loop-i-preserved : goal.loop-i-preserved
 loop-i-preserved g c =
-    let v = c.args.self.now in
-    let e = front_more g.S.Side.rule v.spots c.loop-i.i c.loop-i.best (omega arith) c.loop-i.invariant.1 in
-    elim c.if-comes_first.branch [
-      | then-comes_first w ↦
-          (omega (arith, w.best-is), grind (arith, nat_tests, w.best-is, w.if-comes_first.true, c.comes_first.ensures))
-      | else-comes_first w ↦
-          (omega (arith, w.best-is), grind (arith, nat_tests, w.best-is, w.if-comes_first.false, c.comes_first.ensures))
-    ]
-
-pub returns : goal.returns
-returns g c =
-    let v = c.args.self.now in
-    let n : c.loop-i.i ≡ v.count = omega arith in
-    (omega arith, ap (λ k. front_of (arranged g.S.Side.rule (take k v.spots))) (sym n) ∙ c.loop-i.invariant.1)
+    let rule = g.S.Side.rule in
+    let xs = c.held-held.result.now in
+    let i = c.loop-i.i in
+    let best = c.loop-i.best in
+    let said : MatchOption best (IsTrue c.is_none_or.result) (λ first. Ahead rule xs i c.loop-i-test.true first c.is_none_or.result) =
+    match_map best _ _ _ (λ first p. search rules) c.is_none_or.ensures in
+    let next : c.if-is_none_or.best ≡ cond c.is_none_or.result (Some i) best =
+    elim c.if-is_none_or.branch [
+      | then-is_none_or w ↦ w.best-is ∙ ap (λ b. cond b (Some i) best) (sym w.if-is_none_or.true)
+      | else-is_none_or w ↦ w.best-is ∙ ap (λ b. cond b (Some i) best) (sym w.if-is_none_or.false)
+    ] in
+    subst (Front rule (take (i + 1) xs)) (sym next)
+    (front_step rule xs i c.loop-i-test.true best c.is_none_or.result c.loop-i.invariant said)

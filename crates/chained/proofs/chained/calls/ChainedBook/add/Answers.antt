@@ -1,59 +1,45 @@
-use Rattle.std.proofs.Common.{◌≡◌, ◌<◌, ◌≤◌, true, false, length, is_some, sym, refl, ap, ◌∙◌, arith}
-use Rattle.std.proofs.lemmas.Bool.{ltb-true, ltb-false}
-use Rattle.books.specs.Lists.{sound, find}
+use Rattle.std.proofs.Common.{rules, arith}
 use Rattle.chained.specs.Records.{orders_in, room_in}
-use Rattle.chained.proofs.Held.{held, add_before, add_here, add_count, added_held}
-use Rattle.chained.proofs.Outcomes.{add_passes, add_full}
+use Rattle.books.proofs.Outcomes.{fits}
+use Rattle.chained.proofs.Held.{held, by_price, add_before, add_here, added_held}
 use Rattle.chained.proofs.chained.calls.ChainedBook.add.Goals as goal
 
-pub returns-then-not-has_space : goal.returns-then-not-has_space
-returns-then-not-has_space g c =
-    let rs = c.args.self.now.chains.records.now in
-    let good : sound c.args.order ≡ true = sym c.if-not-is_sound.ensures in
-    let new : is_some (find c.args.order.number (orders_in rs)) ≡ false =
-    ap is_some (sym c.find.ensures) ∙ sym c.if-is_some.ensures in
-    let full : room_in rs ≤ length (orders_in rs) =
-    ltb-false (length (orders_in rs)) (room_in rs) (sym c.if-not-has_space.ensures) in
-    let out = add_full g.S.Side.rule (room_in rs) (orders_in rs) c.args.order good new full in
-    record { answer = sym (ap (λ o. o.answer) out); list = sym (ap (λ o. o.list) out); places = refl }
-
-pub link-requires : goal.link-requires
-link-requires g c =
+pub link-requires-clause-before_in_bounds : goal.link-requires-clause-before_in_bounds
+link-requires-clause-before_in_bounds g c =
     let b = c.args.self.now in
     let rs = b.chains.records.now in
-    let space : length (orders_in rs) < room_in rs =
-    ltb-true (length (orders_in rs)) (room_in rs) (sym c.if-not-has_space.ensures) in
-    let before = add_before g.S.Side.rule c.args.order rs b.chains.count (held b) space in
-    record {
-      before_in_bounds = omega (arith, c.seek-spot.ensures.before, before);
-      records_in_bounds = add_here g.S.Side.rule c.args.order rs b.chains.count (held b) space;
-      count_lt_most_places = add_count g.S.Side.rule c.args.order rs b.chains.count (held b) space;
-    }
+    let f = fits (room_in rs) (orders_in rs) c.args.order c.in_ok-check_add.field-0 c.in_ok-check_add.ensures in
+    omega (
+      arith,
+      add_before g.S.Side.rule c.args.order rs b.chains.count (held b) f,
+      c.seek-spot.ensures.before (by_price g.S.Side.rule c.args.order) (λ o r p. search rules),
+    )
+
+pub link-requires-clause-records_in_bounds : goal.link-requires-clause-records_in_bounds
+link-requires-clause-records_in_bounds g c =
+    let b = c.args.self.now in
+    let rs = b.chains.records.now in
+    let f = fits (room_in rs) (orders_in rs) c.args.order c.in_ok-check_add.field-0 c.in_ok-check_add.ensures in
+    add_here g.S.Side.rule c.args.order rs b.chains.count (held b) f
 
 pub invariant_of-self : goal.invariant_of-self
 invariant_of-self g c =
     let b = c.args.self.now in
     let rs = b.chains.records.now in
-    let good : sound c.args.order ≡ true = sym c.if-not-is_sound.ensures in
-    let space : length (orders_in rs) < room_in rs =
-    ltb-true (length (orders_in rs)) (room_in rs) (sym c.if-not-has_space.ensures) in
+    let f = fits (room_in rs) (orders_in rs) c.args.order c.in_ok-check_add.field-0 c.in_ok-check_add.ensures in
     let k =
-    (added_held g.S.Side.rule c.args.order rs b.chains.count (held b) space
-    c.link.new.self.records.now c.seek-spot.result.before c.link.new.self.count good c.seek-spot.ensures.before
+    (added_held g.S.Side.rule c.args.order rs b.chains.count (held b) f
+    c.link.new.self.records.now c.seek-spot.result.before c.link.new.self.count
+    (c.seek-spot.ensures.before (by_price g.S.Side.rule c.args.order) (λ o r p. search rules))
     c.link.ensures.records c.link.ensures.count).held in
-    record { few = k.0; counted = k.1.0; apart = k.1.1.0; whole = k.1.1.1.0; sound = k.1.1.1.1.0 }
+    search rules
 
-pub returns : goal.returns
-returns g c =
+pub returns-clause-list : goal.returns-clause-list
+returns-clause-list g c =
     let b = c.args.self.now in
     let rs = b.chains.records.now in
-    let good : sound c.args.order ≡ true = sym c.if-not-is_sound.ensures in
-    let new : is_some (find c.args.order.number (orders_in rs)) ≡ false =
-    ap is_some (sym c.find.ensures) ∙ sym c.if-is_some.ensures in
-    let space : length (orders_in rs) < room_in rs =
-    ltb-true (length (orders_in rs)) (room_in rs) (sym c.if-not-has_space.ensures) in
-    let done = added_held g.S.Side.rule c.args.order rs b.chains.count (held b) space
-    c.link.new.self.records.now c.seek-spot.result.before c.link.new.self.count good c.seek-spot.ensures.before
-    c.link.ensures.records c.link.ensures.count in
-    let out = add_passes g.S.Side.rule (room_in rs) (orders_in rs) c.args.order good new space in
-    record { answer = sym (ap (λ o. o.answer) out); list = done.list ∙ sym (ap (λ o. o.list) out); places = done.room }
+    let f = fits (room_in rs) (orders_in rs) c.args.order c.in_ok-check_add.field-0 c.in_ok-check_add.ensures in
+    (added_held g.S.Side.rule c.args.order rs b.chains.count (held b) f
+    c.link.new.self.records.now c.seek-spot.result.before c.link.new.self.count
+    (c.seek-spot.ensures.before (by_price g.S.Side.rule c.args.order) (λ o r p. search rules))
+    c.link.ensures.records c.link.ensures.count).list

@@ -1,73 +1,41 @@
-use Rattle.std.proofs.Common.{◌≡◌, ◌<◌, ◌∷◌, length, sym, ap, ◌∙◌, arith}
-use Rattle.chained.specs.Records.{next_of, order_of, orders_in}
-use Rattle.chained.proofs.Held.{held, behind, front_known, front_below, orders_front, take_count, taken_whole, taken_part}
-use Rattle.chained.proofs.Outcomes.{take_all, take_part}
+use Rattle.std.proofs.Common.{rules}
+use Rattle.chained.specs.Records.{orders_in}
+use Rattle.books.proofs.Outcomes.{takes}
+use Rattle.chained.proofs.Held.{held, takes_whole, takes_part}
 use Rattle.chained.proofs.chained.calls.ChainedBook.take.Goals as goal
-
-pub unlink-requires : goal.unlink-requires
-unlink-requires g c =
-    let b = c.args.self.now in
-    let rs = b.chains.records.now in
-    let known = front_known rs b.apart b.whole c.in-Some.order c.in-Some.ensures in
-    let below : next_of rs 0 < length rs = front_below rs b.apart b.whole known.0 in
-    record {
-      before_in_bounds = omega (arith, below);
-      here_in_bounds = omega (arith, below, c.first-here.ensures);
-      count_nonzero = take_count rs b.chains.count (held b) known.0;
-    }
 
 pub invariant_of-self : goal.invariant_of-self
 invariant_of-self g c =
     let b = c.args.self.now in
     let rs = b.chains.records.now in
-    let known = front_known rs b.apart b.whole c.in-Some.order c.in-Some.ensures in
+    let t = takes (orders_in rs) c.args.shares c.in_ok-order.order c.in_ok-order.ensures in
     let k =
-    (taken_whole rs b.chains.count (held b) known.0 c.unlink.new.self.records.now c.first-here.result c.unlink.new.self.count
-    c.first-here.ensures c.unlink.ensures.records c.unlink.ensures.count).held in
-    record { few = k.0; counted = k.1.0; apart = k.1.1.0; whole = k.1.1.1.0; sound = k.1.1.1.1.0 }
+    (takes_whole rs b.chains.count (held b) c.args.shares c.in_ok-order.order t c.unlink.new.self.records.now c.first-here.result
+    c.unlink.new.self.count c.if-shares-order.true c.first-here.ensures c.unlink.ensures.records c.unlink.ensures.count).held in
+    search rules
 
-pub returns-then-shares-order-2 : goal.returns-then-shares-order-2
-returns-then-shares-order-2 g c =
+pub returns-then-shares-order-clause-list : goal.returns-then-shares-order-clause-list
+returns-then-shares-order-clause-list g c =
     let b = c.args.self.now in
     let rs = b.chains.records.now in
-    let known = front_known rs b.apart b.whole c.in-Some.order c.in-Some.ensures in
-    let done = taken_whole rs b.chains.count (held b) known.0 c.unlink.new.self.records.now c.first-here.result c.unlink.new.self.count
-    c.first-here.ensures c.unlink.ensures.records c.unlink.ensures.count in
-    let out = take_all (orders_in rs) (order_of rs (next_of rs 0)) (behind rs) c.args.shares (orders_front rs b.chains.count (held b) known.0)
-    c.if-shares-eq0.false (c.if-shares-order-2.true ∙ ap (λ o. o.shares) known.1) in
-    record { answer = sym (ap (λ o. o.answer) out); list = done.list ∙ sym (ap (λ o. o.list) out); places = done.room }
+    let t = takes (orders_in rs) c.args.shares c.in_ok-order.order c.in_ok-order.ensures in
+    (takes_whole rs b.chains.count (held b) c.args.shares c.in_ok-order.order t c.unlink.new.self.records.now c.first-here.result
+    c.unlink.new.self.count c.if-shares-order.true c.first-here.ensures c.unlink.ensures.records c.unlink.ensures.count).list
 
-pub reduce-requires : goal.reduce-requires
-reduce-requires g c =
+pub invariant_of-self-else-shares-order : goal.invariant_of-self-else-shares-order
+invariant_of-self-else-shares-order g c =
     let b = c.args.self.now in
     let rs = b.chains.records.now in
-    let known = front_known rs b.apart b.whole c.in-Some.order c.in-Some.ensures in
-    let below : next_of rs 0 < length rs = front_below rs b.apart b.whole known.0 in
-    let same : c.in-Some.order ≡ order_of rs c.first-here.result = known.1 ∙ ap (order_of rs) (sym c.first-here.ensures) in
-    record {
-      here_in_bounds = omega (arith, below, c.first-here.ensures);
-      shares_bound = omega (arith, ap (λ o. o.shares) same, c.if-shares-order.false);
-    }
-
-pub invariant_of-self-else-shares-order-2 : goal.invariant_of-self-else-shares-order-2
-invariant_of-self-else-shares-order-2 g c =
-    let b = c.args.self.now in
-    let known = front_known b.chains.records.now b.apart b.whole c.in-Some.order c.in-Some.ensures in
+    let t = takes (orders_in rs) c.args.shares c.in_ok-order.order c.in_ok-order.ensures in
     let k =
-    (taken_part b.chains.records.now b.chains.count (held b) known.0 c.in-Some.order c.args.shares c.reduce.new.self.records.now
-    c.first-here.result c.reduce.new.self.count known.1 c.if-shares-order.false c.if-shares-order-2.false
-    c.first-here.ensures c.reduce.ensures.records c.reduce.ensures.count).held in
-    record { few = k.0; counted = k.1.0; apart = k.1.1.0; whole = k.1.1.1.0; sound = k.1.1.1.1.0 }
+    (takes_part rs b.chains.count (held b) c.args.shares c.in_ok-order.order t c.reduce.new.self.records.now c.first-here.result
+    c.reduce.new.self.count c.if-shares-order.false c.first-here.ensures c.reduce.ensures.records c.reduce.ensures.count).held in
+    search rules
 
-pub returns-else-shares-order-2 : goal.returns-else-shares-order-2
-returns-else-shares-order-2 g c =
+pub returns-else-shares-order-clause-list : goal.returns-else-shares-order-clause-list
+returns-else-shares-order-clause-list g c =
     let b = c.args.self.now in
     let rs = b.chains.records.now in
-    let known = front_known rs b.apart b.whole c.in-Some.order c.in-Some.ensures in
-    let done = taken_part rs b.chains.count (held b) known.0 c.in-Some.order c.args.shares c.reduce.new.self.records.now
-    c.first-here.result c.reduce.new.self.count known.1 c.if-shares-order.false c.if-shares-order-2.false
-    c.first-here.ensures c.reduce.ensures.records c.reduce.ensures.count in
-    let out = take_part (orders_in rs) c.in-Some.order (behind rs) c.args.shares
-    (orders_front rs b.chains.count (held b) known.0 ∙ ap (λ o. o ∷ behind rs) (sym known.1))
-    c.if-shares-eq0.false c.if-shares-order.false c.if-shares-order-2.false in
-    record { answer = sym (ap (λ o. o.answer) out); list = done.list ∙ sym (ap (λ o. o.list) out); places = done.room }
+    let t = takes (orders_in rs) c.args.shares c.in_ok-order.order c.in_ok-order.ensures in
+    (takes_part rs b.chains.count (held b) c.args.shares c.in_ok-order.order t c.reduce.new.self.records.now c.first-here.result
+    c.reduce.new.self.count c.if-shares-order.false c.first-here.ensures c.reduce.ensures.records c.reduce.ensures.count).list
