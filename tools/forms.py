@@ -20,29 +20,25 @@ def lines(pattern):
     return found
 
 
+def closed(text, at, opening, closing):
+    """Where what opens at that place is closed again."""
+    depth = 0
+    while True:
+        depth += {opening: 1, closing: -1}.get(text[at], 0)
+        at += 1
+        if depth == 0:
+            return at
+
+
 def functions():
     """Each function: its file, line, name, parameters, clauses and body."""
     for file, text in TEXT.items():
         for m in re.finditer(r"\n *(?:pub(?:\(crate\))? )?fn (\w+)", text):
             start = text.index("(", m.end())
-            depth, end = 0, start
-            while True:
-                depth += {"(": 1, ")": -1}.get(text[end], 0)
-                end += 1
-                if depth == 0:
-                    break
-            opening = re.search(r"\{\n|\{\}\n|;\n", text[end:])
-            head, at = text[end : end + opening.start()], end + opening.start()
-            body = ""
-            if text[at] == "{":
-                depth, stop = 0, at
-                while True:
-                    depth += {"{": 1, "}": -1}.get(text[stop], 0)
-                    stop += 1
-                    if depth == 0:
-                        break
-                body = text[at:stop]
-            yield file, text.count("\n", 0, m.start()) + 2, m.group(1), text[start + 1 : end - 1], head, body
+            end = closed(text, start, "(", ")")
+            at = end + re.search(r"\{\n|\{\}\n|;\n", text[end:]).start()
+            body = text[at : closed(text, at, "{", "}")] if text[at] == "{" else ""
+            yield file, text.count("\n", 0, m.start()) + 2, m.group(1), text[start + 1 : end - 1], text[end:at], body
 
 
 def twins():
