@@ -1,6 +1,5 @@
 // How many operations were accepted, and how many met each refusal.
 use crate::operation::Answer;
-use rules::refusal::Refusal;
 use std::fmt;
 
 #[derive(Clone, Copy, Default)]
@@ -13,12 +12,13 @@ pub struct Tally {
 }
 
 impl Tally {
+    // By the numbers that the refusals must have, which are printed below.
     pub fn note(&mut self, answer: Answer) {
-        let count = match answer {
-            Err(Refusal::BadOrder) => &mut self.bad_orders,
-            Err(Refusal::BookFull) => &mut self.book_full,
-            Err(Refusal::BadTake) => &mut self.bad_takes,
-            Err(Refusal::NotStanding) => &mut self.not_standing,
+        let count = match answer.map_err(|refusal| refusal.number()) {
+            Err(5) => &mut self.bad_orders,
+            Err(6) => &mut self.book_full,
+            Err(7) => &mut self.bad_takes,
+            Err(8) => &mut self.not_standing,
             _ => &mut self.accepted,
         };
         *count = count.saturating_add(1);

@@ -36,6 +36,12 @@ pub shares_summed : (price : ℕ) (xs : List Standing) → sum_by (λ o. o.share
 shares_summed price [] = refl
 shares_summed price (x ∷ xs) = let e = shares_summed price xs in grind (arith, common_steps, nat_tests)
 
+-- the same, with 0 for each order at another price
+pub shares_each : (price : ℕ) (xs : List Standing) →
+    sum_by (λ o. cond (nat_eq o.price price) o.shares 0) xs ≡ sum_by (λ o. o.shares) (filter (λ o. o.price == price) xs)
+shares_each price [] = refl
+shares_each price (x ∷ xs) = let e = shares_each price xs in grind (arith, common_steps, nat_tests)
+
 pub tally_arrange : (n : ℕ) (rule : Rule) (xs list : List Standing) →
     tally n (arrange rule xs list) ≡ tally n xs + tally n list
 tally_arrange n = sum_arrange (tally n) (λ o. cond (o.number == n) 1 0) (λ _ _. refl) refl

@@ -7,3 +7,4 @@ pub mod Spots
 pub mod Front
 pub mod Calls
 pub mod Parts
+pub mod Places

@@ -1,12 +1,12 @@
 -- What a change answers and leaves, from what its checks said.
-use Rattle.std.proofs.Common.{◌≡◌, ℕ, ◌<◌, ◌≤◌, Bool, true, false, not, ◌&&◌, ltb, List, [], ◌∷◌, length, Some, None, Ok, Err, refl, ap, ◌∙◌, arith}
+use Rattle.std.proofs.Common.{◌≡◌, ℕ, ◌<◌, ◌≤◌, Bool, true, false, not, ◌&&◌, ltb, leb, List, [], ◌∷◌, length, Some, None, Ok, Err, refl, ap, ◌∙◌, arith}
 use Rattle.std.proofs.lemmas.Bool.{and_parts, not-true, ltb-true}
 use Rattle.std.proofs.lemmas.Bool.Decides.{nat_tests}
 use Rattle.rules.proofs.Answering.{accepted}
 use Rattle.rules.specs.Refusals.{check, passed, Answers}
 use Rattle.rules.specs.Sides.{Rule}
 use Rattle.rules.specs.declared.refusal.Refusal.{Refusal}
-use Rattle.rules.specs.declared.refusal.Refusal.TheVariants.{BadOrder, BookFull, NotStanding}
+use Rattle.rules.specs.declared.refusal.Refusal.TheVariants.{BadOrder, BookFull, BadTake, NotStanding}
 use Rattle.books.specs.Lists.{unless, front_of, find, stands, sound, put, add_refusal, added, less, take_refusal, taken, without, removed, removed_found}
 use Rattle.books.specs.declared.standing.Standing.{Standing}
 
@@ -59,6 +59,19 @@ pub record Takes (orders : List Standing) (n : ℕ) (y : Standing) : Type 0 wher
   pub some : 1 ≤ n
   pub most : n ≤ y.shares
   pub list : (taken orders n).list ≡ less orders n
+
+pub takes_front : (orders : List Standing) (n : ℕ) (y : Standing) → front_of orders ≡ Some y → (leb 1 n && leb n y.shares) ≡ true → Takes orders n y
+takes_front [] n y f e = let z : ◌≡◌ {A = ℕ} 0 1 = cc in absurd (omega arith)
+takes_front (x ∷ xs) n y f e =
+    let q : x ≡ y = cc in
+    let s : x.shares ≡ y.shares = ap (λ o. o.shares) q in
+    let a : (leb 1 n && leb n x.shares) ≡ true = ap (λ k. leb 1 n && leb n k) s ∙ e in
+    record {
+      front = f;
+      some = grind (arith, nat_tests);
+      most = grind (arith, nat_tests);
+      list = ap (λ b. (unless (check b BadTake None) (x ∷ xs) record { answer = Ok tt; list = less (x ∷ xs) n }).list) a;
+    }
 
 pub takes : (orders : List Standing) (n : ℕ) (y : Standing) → Answers (take_refusal orders n) (λ order. front_of orders ≡ Some order) (λ refusal error. error ≡ refusal) (Ok y) → Takes orders n y
 takes [] n y h = absurd h

@@ -63,7 +63,7 @@ pub trait Book {
         ensures { Answers (take_refusal (orders self.now) shares) (λ order. front_of (orders self.now) ≡ Some order) (λ refusal error. error ≡ refusal) result }
     {
         let order = self.front().ok_or(Refusal::BadTake)?;
-        if !(1..=order.shares).contains(&shares) {
+        if !order.gives(shares) {
             return Err(Refusal::BadTake);
         }
         Ok(order)

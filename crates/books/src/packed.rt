@@ -82,8 +82,12 @@ impl<S: Side> Book for Packed<S> {
     }
 
     fn take(&mut self, shares: u32) -> Result<(), Refusal> {
-        let order = self.check_take(shares)?;
-        let index = self.arrivals.front_index::<S>().unwrap();
+        // not by `check_take`, which looks for the front order too: one look through the arrivals
+        let index = self.arrivals.front_index::<S>().ok_or(Refusal::BadTake)?;
+        let order = self.arrivals.at(index);
+        if !order.gives(shares) {
+            return Err(Refusal::BadTake);
+        }
         if shares == order.shares {
             self.arrivals.close_up(index);
         } else {

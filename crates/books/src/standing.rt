@@ -1,5 +1,5 @@
 // An order as it stands in a book.
-ghost use Rattle.std.specs.Prelude.{◌≡◌};
+ghost use Rattle.std.specs.Prelude.{◌≡◌, ◌&&◌, nat_le};
 ghost use Rattle.books.specs.Lists.{sound};
 
 use rules::sheet::MOST_SHARES;
@@ -25,5 +25,12 @@ impl Standing {
         ensures { result ≡ sound self.now }
     {
         self.number >= 1 && self.price >= 1 && (1..=MOST_SHARES).contains(&self.shares)
+    }
+
+    // Whether so many shares can be taken from the order.
+    pub(crate) fn gives(&self, shares: u32) -> bool
+        ensures { result ≡ (nat_le 1 shares && nat_le shares self.now.shares) }
+    {
+        (1..=self.shares).contains(&shares)
     }
 }

@@ -1,8 +1,13 @@
 -- What a write to one record leaves of each field of all.
-use Rattle.std.proofs.Common.{◌≡◌, ℕ, zero, suc, ◌+◌, ◌<◌, ◌≤◌, cond, ltb, ◌≢◌, List, [], ◌∷◌, length, set, refl, ap, ◌∙◌, below_more, arith}
-use Rattle.std.proofs.lemmas.List.{get_or-set_same, get_or-set_other}
+use Rattle.std.proofs.Common.{◌≡◌, ℕ, zero, suc, ◌+◌, ◌-◌, ◌<◌, ◌≤◌, true, false, cond, ltb, ◌≢◌, ⊎_elim, List, [], ◌∷◌, length, set, sym, refl, ap, ◌∙◌, subst, arith}
+use Rattle.std.proofs.lemmas.Bool.{cases_Bool, ltb-true, ltb-false}
+use Rattle.std.proofs.lemmas.List.{length-set, get_or-set_same, get_or-set_other}
 use Rattle.chained.specs.Records.{blank, at, next_of, free_of, order_of, with_next, with_free, Cleared}
 use Rattle.chained.specs.declared.record.Record.{Record}
+
+pub no_anchor : (rs : List Record) → length rs ≡ 0 → 0 ≡ next_of rs 0
+no_anchor [] e = refl
+no_anchor (r ∷ rs) e = absurd (omega arith)
 
 pub at_same : (rs : List Record) (k : ℕ) (v : Record) → k < length rs → at (set rs k v) k ≡ v
 at_same rs k v h = get_or-set_same rs k v blank h
@@ -44,20 +49,31 @@ order_under_free rs k n j = keeps (λ r. r.order) rs k (record { order = order_o
 
 -- Clearing
 
--- a record of n that leads to the one after it as a free record, and to no order
-abbrev pub IsCleared : (n : ℕ) → List Record → ℕ → Type 0
-IsCleared n rs j = (next_of rs j ≡ 0) × (free_of rs j ≡ cond (ltb (j + 1) n) (j + 1) 0)
+-- each record leads to the one after it, and then the last one to none
+pub freed_last : (rs : List Record) (n : ℕ) → length rs ≡ n → ((j : ℕ) → j < n → free_of rs j ≡ j + 1) →
+    (j : ℕ) → j < n → free_of (with_free rs (n - 1) 0) j ≡ cond (ltb (j + 1) n) (j + 1) 0
+freed_last rs n e freed j h =
+    ⊎_elim
+    (λ (t : ltb (j + 1) n ≡ true).
+    let l = ltb-true (j + 1) n t in
+    free_other rs (n - 1) j 0 (let ne : j ≢ n - 1 = omega arith in ne) ∙ freed j h ∙ sym (ap (λ b. cond {A = ℕ} b (j + 1) 0) t))
+    (λ (f : ltb (j + 1) n ≡ false).
+    let l = ltb-false (j + 1) n f in
+    let q : j ≡ n - 1 = omega arith in
+    ap (λ i. free_of (with_free rs (n - 1) 0) i) q ∙ free_same rs (n - 1) 0 (omega arith) ∙ sym (ap (λ b. cond {A = ℕ} b (j + 1) 0) f))
+    (cases_Bool (ltb (j + 1) n))
 
-pub cleared_more : (n : ℕ) (rs : List Record) (k : ℕ) (v : Record) → k < length rs → v.next ≡ 0 → v.free ≡ cond (ltb (k + 1) n) (k + 1) 0 →
-    ((j : ℕ) → j < k → IsCleared n rs j) → (j : ℕ) → j < k + 1 → IsCleared n (set rs k v) j
-cleared_more n rs k v l next free below =
-    below_more _ _
-    (λ j h.
-    let e = at_other rs k j v (let ne : j ≢ k = omega arith in ne) in
-    let b = below j h in
-    (ap (λ r. r.next) e ∙ b.0, ap (λ r. r.free) e ∙ b.1))
-    (let e = at_same rs k v l in (ap (λ r. r.next) e ∙ next, ap (λ r. r.free) e ∙ free))
+-- the end of clearing: the anchor's link, where there is an anchor
+pub cleared_some : (rs rs' : List Record) (n k : ℕ) → length rs ≡ n → n ≤ k → ((j : ℕ) → j < k → free_of rs j ≡ cond (ltb (j + 1) n) (j + 1) 0) → 0 < n → rs' ≡ with_next rs 0 0 → Cleared n rs'
+cleared_some rs rs' n k e all freed some is = subst (Cleared n) (sym is) (record {
+  many = length-set rs 0 (record { order = order_of rs 0; next = 0; free = free_of rs 0 }) ∙ e;
+  ended = next_same rs 0 0 (omega arith);
+  freed = λ j h. free_under rs 0 0 j ∙ freed j (omega arith);
+})
 
-pub all_cleared : (n : ℕ) (rs : List Record) (k : ℕ) → length rs ≡ n → n ≤ k → ((j : ℕ) → j < k → IsCleared n rs j) → Cleared n rs
-all_cleared n [] k e all h = record { many = e; ended = refl; freed = λ j l. (h j (omega arith)).1 }
-all_cleared n (r ∷ rs) k e all h = record { many = e; ended = (h 0 (omega arith)).0; freed = λ j l. (h j (omega arith)).1 }
+pub cleared_none : (rs rs' : List Record) (n k : ℕ) → length rs ≡ n → n ≤ k → ((j : ℕ) → j < k → free_of rs j ≡ cond (ltb (j + 1) n) (j + 1) 0) → n ≤ 0 → rs' ≡ rs → Cleared n rs'
+cleared_none rs rs' n k e all freed none is = subst (Cleared n) (sym is) (record {
+  many = e;
+  ended = sym (no_anchor rs (omega arith));
+  freed = λ j h. freed j (omega arith);
+})

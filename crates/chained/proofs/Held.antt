@@ -76,9 +76,9 @@ pub record Becomes (os : List Standing) (rs rs' : List Record) (count' : ℕ) : 
   pub list : orders_in rs' ≡ os
   pub room : room_in rs' ≡ room_in rs
 
-module _ (rule : Rule) (o : Standing) (rs : List Record) (count : ℕ) (h : Held count rs) (f : Fits (room_in rs) (orders_in rs) o) where
+module _ (rule : Rule) (o : Standing) (rs : List Record) (count : ℕ) (h : Held count rs) (space : length (orders_in rs) < room_in rs) where
   some_idle : 0 < length (idle rs)
-  some_idle = omega (arith, f.room, length_orders rs, h.1.1.1.0)
+  some_idle = omega (arith, space, length_orders rs, h.1.1.1.0)
 
   -- what linking requires
   pub add_before : stop (ahead rule o rs) 0 (line rs) < length rs
@@ -87,16 +87,20 @@ module _ (rule : Rule) (o : Standing) (rs : List Record) (count : ℕ) (h : Held
   pub add_here : free_of rs 0 < length rs
   add_here = link_here rs (ahead rule o rs) o h.1.1.0 h.1.1.1.0 some_idle
 
+module _ (rule : Rule) (o : Standing) (rs : List Record) (count : ℕ) (h : Held count rs) (f : Fits (room_in rs) (orders_in rs) o) where
+  idle_left : 0 < length (idle rs)
+  idle_left = some_idle rule o rs count h f.room
+
   pub added_held : (rs' : List Record) (before count' : ℕ) → before ≡ stop (ahead rule o rs) 0 (line rs) → rs' ≡ linked rs before (free_of rs 0) o → count' ≡ count + 1 → Becomes (added rule (room_in rs) (orders_in rs) o).list rs rs' count'
   added_held rs' before count' at_stop is more =
       let p : ℕ = stop (ahead rule o rs) 0 (line rs) in
       let k : ℕ = free_of rs 0 in
-      let w = formed_linked rs (ahead rule o rs) o h.1.1.0 h.1.1.1.0 some_idle in
-      let list : orders_in (linked rs p k o) ≡ put rule o (orders_in rs) = orders_linked rs rule o h.1.1.0 h.1.1.1.0 some_idle in
+      let w = formed_linked rs (ahead rule o rs) o h.1.1.0 h.1.1.1.0 idle_left in
+      let list : orders_in (linked rs p k o) ≡ put rule o (orders_in rs) = orders_linked rs rule o h.1.1.0 h.1.1.1.0 idle_left in
       let all : all_sound (orders_in (linked rs p k o)) ≡ true = ap all_sound list ∙ all_put rule o (orders_in rs) f.good h.1.1.1.1.0 in
       let done : Becomes (added rule (room_in rs) (orders_in rs) o).list rs (linked rs p k o) count' =
       record {
-        held = (omega (arith, h.0, length_linked rs p k o), (omega (arith, more, h.1.0, length_orders rs, length_orders (linked rs p k o), count_linked rs (ahead rule o rs) o h.1.1.0 h.1.1.1.0 some_idle), (w.0, (w.1, (all, tt)))));
+        held = (omega (arith, h.0, length_linked rs p k o), (omega (arith, more, h.1.0, length_orders rs, length_orders (linked rs p k o), count_linked rs (ahead rule o rs) o h.1.1.0 h.1.1.1.0 idle_left), (w.0, (w.1, (all, tt)))));
         list = list ∙ sym (f.list rule);
         room = ap (λ n. n - 1) (length_linked rs p k o);
       } in

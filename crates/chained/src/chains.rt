@@ -103,9 +103,11 @@ impl Chains<'_> {
     {
         let end = self.records.len();
         for (k, record) in self.records.iter_mut().enumerate() {
-            let after = k + 1;
-            record.next = 0;
-            record.free = if after < end { after as u16 } else { 0 };
+            record.free = (k + 1) as u16;
+        }
+        if end > 0 {
+            self.records[end - 1].free = 0;
+            self.records[0].next = 0;
         }
         self.count = 0;
     }

@@ -2,15 +2,15 @@
 ghost use Rattle.std.specs.Prelude.{◌≡◌, ◌≤◌, true};
 ghost use Rattle.books.specs.Lists.{shares_at, find, removed};
 ghost use Rattle.matching.specs.Sets.{Rooms, empty_books, room_left, own_list, placed_in, seen_from, find_in, find_either, unless_found, without_in, shares_or_refusal, open_shares};
-ghost use Rattle.matching.specs.Looking.{Books, ours_in, pair_in, paired, standing_in, looked, Looks};
+ghost use Rattle.matching.specs.Looking.{Books, ours_in, standing_in, looked, Looks};
 ghost use Rattle.matching.specs.Placement.{PlacesIn};
 ghost use Rattle.std.proofs.Common.{rules};
 
 use crate::candidate::{Entry, front_price};
-use crate::pair::{Pair, front_pair, take_paired};
-use crate::placing::{Ended, place};
+use crate::pair::look_over;
+use crate::placing::Ended;
 use crate::side_books::SideBooks;
-use crate::trade::{Trade, write_trade};
+use crate::trade::Trade;
 use books::book::Book;
 use rules::price::{BestPrices, Quote};
 use rules::refusal::Refusal;
@@ -101,39 +101,6 @@ impl<
     DA: Book<Side = Asks>,
     KB: Book<Side = Bids>,
     KA: Book<Side = Asks>,
-> FourBooks<DB, DA, KB, KA> {
-    // A sale pair, or else a purchase pair.
-    fn next_pair(&self, away: &BestPrices) -> Option<Pair>
-        ensures { result ≡ pair_in away.now.increment away.now.quote (⟦<Self as BookSet>⟧.lists self.now) }
-    {
-        let best = away.joined(self.ours());
-        let sale = front_pair::<Bids, DA, KB>(&best, &self.asks.displayed, &self.bids.dark);
-        let purchase = || front_pair::<Asks, DB, KA>(&best, &self.bids.displayed, &self.asks.dark);
-        sale.map(Pair::Sale)
-            .or_else(|| purchase().map(Pair::Purchase))
-    }
-
-    // Trades a pair, from the asks and the dark bids or from the bids and the dark asks.
-    fn trade_pair(&mut self, pair: Pair)
-        ensures lists { ⟦<Self as BookSet>⟧.lists self.new ≡ paired pair (⟦<Self as BookSet>⟧.lists self.old) }
-        ensures rooms { ⟦<Self as BookSet>⟧.rooms self.new ≡ ⟦<Self as BookSet>⟧.rooms self.old }
-    {
-        match pair {
-            Pair::Sale(trade) => {
-                take_paired(trade.shares, &mut self.asks.displayed, &mut self.bids.dark)
-            }
-            Pair::Purchase(trade) => {
-                take_paired(trade.shares, &mut self.bids.displayed, &mut self.asks.dark)
-            }
-        }
-    }
-}
-
-impl<
-    DB: Book<Side = Bids>,
-    DA: Book<Side = Asks>,
-    KB: Book<Side = Bids>,
-    KA: Book<Side = Asks>,
 > BookSet for FourBooks<DB, DA, KB, KA> {
     ghost lists = { λ set. record { bids = DB.Book.orders set.bids.displayed; asks = DA.Book.orders set.asks.displayed; dark_bids = KB.Book.orders set.bids.dark; dark_asks = KA.Book.orders set.asks.dark } };
 
@@ -197,19 +164,19 @@ impl<
         list: &mut [Trade],
     ) -> Ended {
         match side {
-            SideName::Bid => place(away, active, &mut self.asks, &mut self.bids, list),
-            SideName::Ask => place(away, active, &mut self.bids, &mut self.asks, list),
+            SideName::Bid => self.bids.place(away, active, &mut self.asks, list),
+            SideName::Ask => self.asks.place(away, active, &mut self.bids, list),
         }
     }
 
     fn look_over(&mut self, away: BestPrices, list: &mut [Trade]) -> usize {
-        // counted by hand: the count is the answer, and names the record
-        let mut trades = 0;
-        while let Some(pair) = self.next_pair(&away) {
-            self.trade_pair(pair);
-            write_trade(list, trades, pair.trade());
-            trades += 1;
-        }
-        trades
+        look_over(
+            away,
+            &mut self.bids.displayed,
+            &mut self.asks.displayed,
+            &mut self.bids.dark,
+            &mut self.asks.dark,
+            list,
+        )
     }
 }

@@ -85,9 +85,9 @@ fn dark_candidate<K: Book>(
 ) -> Option<Standing>
     ensures { result ≡ dark_candidate K.Side.Side.rule active.now around.now front (K.Book.orders dark.now) }
 {
-    let best = best_against::<K::Side>(around, front);
-    let limit = best.quote.on(K::Side::name());
     dark.front().filter(|order| {
+        let best = best_against::<K::Side>(around, front);
+        let limit = best.quote.on(K::Side::name());
         at_or_ahead::<K::Side>(order.price, active.bound)
             && (best.is_better::<K::Side>(order.price)
                 || (active.large && spared::<K::Side>(order.price, limit)))

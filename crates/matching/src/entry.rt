@@ -27,20 +27,21 @@ fn trade_with(active: &Entry, candidate: Candidate, shares: u32) -> Trade
 // Takes the shares of a trade from the front of the book that it names, and writes its record.
 fn make_trade<D: Book, K: Book>(
     trade: Trade,
-    met: &mut SideBooks<D, K>,
+    displayed: &mut D,
+    dark: &mut K,
     list: &mut [Trade],
     at: usize,
 )
-    ensures displayed { D.Book.orders met.new.displayed ≡ displayed_after trade (D.Book.orders met.old.displayed) }
-    ensures dark { K.Book.orders met.new.dark ≡ dark_after trade (K.Book.orders met.old.dark) }
-    ensures places { (D.Book.room met.new.displayed ≡ D.Book.room met.old.displayed) × (K.Book.room met.new.dark ≡ K.Book.room met.old.dark) }
+    ensures displayed { D.Book.orders displayed.new ≡ displayed_after trade (D.Book.orders displayed.old) }
+    ensures dark { K.Book.orders dark.new ≡ dark_after trade (K.Book.orders dark.old) }
+    ensures places { (D.Book.room displayed.new ≡ D.Book.room displayed.old) × (K.Book.room dark.new ≡ K.Book.room dark.old) }
     ensures list { list.new ≡ slice_set list.old at trade }
 {
     // a take that is refused leaves its book as it was, as the definition has it
     if trade.dark {
-        let _ = met.dark.take(trade.shares);
+        let _ = dark.take(trade.shares);
     } else {
-        let _ = met.displayed.take(trade.shares);
+        let _ = displayed.take(trade.shares);
     }
     write_trade(list, at, trade);
 }
@@ -52,24 +53,36 @@ pub struct Left {
     pub trades: usize,
 }
 
-// Trades until nothing is open or no candidate is left, and writes the trades to the front of the list.
+// Trades until nothing is open or no candidate is left, and writes the trades to the front of the list. The two books are
+// lent one by one, so that whoever has only borrowed ones can match over them.
 pub fn match_entry<D: Book, K: Book<Side = D::Side>>(
     active: &Entry,
     around: &Around,
-    met: &mut SideBooks<D, K>,
+    displayed: &mut D,
+    dark: &mut K,
     list: &mut [Trade],
 ) -> Left
-    ensures leaves { Leaves (matched D.Side.Side.rule active.now around.now (record { displayed = D.Book.orders met.old.displayed; dark = K.Book.orders met.old.dark; shares = active.now.shares })) (D.Book.orders met.new.displayed) (K.Book.orders met.new.dark) list.old list.new result }
-    ensures places { (D.Book.room met.new.displayed ≡ D.Book.room met.old.displayed) × (K.Book.room met.new.dark ≡ K.Book.room met.old.dark) }
+    ensures leaves { Leaves (matched D.Side.Side.rule active.now around.now (record { displayed = D.Book.orders displayed.old; dark = K.Book.orders dark.old; shares = active.now.shares })) (D.Book.orders displayed.new) (K.Book.orders dark.new) list.old list.new result }
+    ensures places { (D.Book.room displayed.new ≡ D.Book.room displayed.old) × (K.Book.room dark.new ≡ K.Book.room dark.old) }
 {
     let mut shares = active.shares;
     // counted by hand: the count is a part of the answer, and names the record
     let mut trades = 0;
-    while let Some(candidate) = next_candidate(active, around, &met.displayed, &met.dark, shares) {
+    while let Some(candidate) = next_candidate(active, around, displayed, dark, shares) {
         let trade = trade_with(active, candidate, shares);
-        make_trade(trade, met, list, trades);
+        make_trade(trade, displayed, dark, list, trades);
         shares -= trade.shares;
         trades += 1;
     }
     Left { shares, trades }
+}
+
+impl<D: Book, K: Book<Side = D::Side>> SideBooks<D, K> {
+    // The same over the two books of a side.
+    pub fn match_entry(&mut self, active: &Entry, around: &Around, list: &mut [Trade]) -> Left
+        ensures leaves { Leaves (matched D.Side.Side.rule active.now around.now (record { displayed = D.Book.orders self.old.displayed; dark = K.Book.orders self.old.dark; shares = active.now.shares })) (D.Book.orders self.new.displayed) (K.Book.orders self.new.dark) list.old list.new result }
+        ensures places { (D.Book.room self.new.displayed ≡ D.Book.room self.old.displayed) × (K.Book.room self.new.dark ≡ K.Book.room self.old.dark) }
+    {
+        match_entry(active, around, &mut self.displayed, &mut self.dark, list)
+    }
 }

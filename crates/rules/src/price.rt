@@ -80,8 +80,9 @@ pub fn first<S: Side>(a: Option<u32>, b: Option<u32>) -> Option<u32>
     ensures { result ≡ first_of S.Side.rule a b }
 {
     match (a, b) {
+        (None, _) => b,
+        (Some(_), None) => a,
         (Some(p), Some(q)) => Some(if S::comes_first(q, p) { q } else { p }),
-        _ => a.or(b),
     }
 }
 

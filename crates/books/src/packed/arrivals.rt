@@ -1,8 +1,8 @@
 // Up to 32 orders by arrival, oldest first. Who is first by priority is worked out when asked.
-ghost use Rattle.std.specs.Prelude.{◌≡◌, ◌<◌, ◌≤◌, [], ◌∷◌, ◌++◌, length, get_or, ◌==◌, slice_index_or, slice_set, position, sum_by, filter};
+ghost use Rattle.std.specs.Prelude.{◌≡◌, ◌<◌, ◌≤◌, [], ◌∷◌, ◌++◌, length, get_or, ◌==◌, slice_index_or, slice_set, position, sum_by, filter, nat_eq, if◌then◌else◌};
 ghost use Rattle.std.specs.List.{remove};
 ghost use Rattle.books.specs.Lists.{reduced};
-ghost use Rattle.books.specs.Packing.{blank, Front};
+ghost use Rattle.books.specs.Packing.{blank, moved_down, Front};
 
 use crate::standing::Standing;
 use rules::side::Side;
@@ -91,8 +91,7 @@ impl Arrivals {
     {
         self.held()
             .iter()
-            .filter(|order| order.price == price)
-            .map(|order| u64::from(order.shares))
+            .map(|order| u64::from(order.shares_if(price)))
             .sum()
     }
 
@@ -112,15 +111,35 @@ impl Arrivals {
         self.spots[..self.count][index].shares -= shares;
     }
 
-    // Later orders move down by one.
+    // Later orders move down by one, and only the last spot is cleared.
     pub(crate) fn close_up(&mut self, index: usize) -> Standing
         requires { index < length self.old }
         ensures answer { result ≡ slice_index_or self.old index blank }
         ensures left { self.new ≡ remove self.old index }
     {
         let gone = self.at(index);
-        self.spots.copy_within(index + 1..self.count, index);
+        close(&mut self.spots, index, self.count);
         self.count -= 1;
         gone
+    }
+}
+
+// Closes up the spots in use, so many, after the order at the index has left: nothing of an order that left stays behind
+// them. Of the bare spots, which clauses on the arrivals do not see.
+fn close(spots: &mut [Standing], index: usize, end: usize)
+    requires within { end ≤ length spots.old }
+    requires used { index < end }
+    ensures { spots.new ≡ moved_down spots.old index end }
+{
+    spots.copy_within(index + 1..end, index);
+    spots[end - 1] = Standing::BLANK;
+}
+
+impl Standing {
+    // No filter in place of it: that would branch on each price.
+    fn shares_if(&self, price: u32) -> u32
+        ensures { result ≡ (if nat_eq self.now.price price then self.now.shares else 0) }
+    {
+        if self.price == price { self.shares } else { 0 }
     }
 }

@@ -8,15 +8,15 @@ loop-candidate-init g c = (turning_none g.D.Side.Side.rule c.args.active.now c.a
 
 pub loop-candidate-smaller : goal.loop-candidate-smaller
 loop-candidate-smaller g c =
-    let scene : Scene = record { displayed = g.D.Book.orders c.loop-candidate.met.displayed; dark = g.K.Book.orders c.loop-candidate.met.dark; shares = c.loop-candidate.shares } in
+    let scene : Scene = record { displayed = g.D.Book.orders c.loop-candidate.displayed; dark = g.K.Book.orders c.loop-candidate.dark; shares = c.loop-candidate.shares } in
     shares_fall g.D.Side.Side.rule c.args.active.now c.args.around.now scene c.in-Some.candidate _ (sym c.in-Some.ensures)
-    (g.met.D.Book.kept c.loop-candidate.met.displayed).2 (g.met.K.Book.kept c.loop-candidate.met.dark).2 c.trade_with-trade.ensures
+    (g.met.D.Book.kept c.loop-candidate.displayed).2 (g.met.K.Book.kept c.loop-candidate.dark).2 c.trade_with-trade.ensures
 
 pub loop-candidate-preserved : goal.loop-candidate-preserved
 loop-candidate-preserved g c =
-    let scene : Scene = record { displayed = g.D.Book.orders c.loop-candidate.met.displayed; dark = g.K.Book.orders c.loop-candidate.met.dark; shares = c.loop-candidate.shares } in (
+    let scene : Scene = record { displayed = g.D.Book.orders c.loop-candidate.displayed; dark = g.K.Book.orders c.loop-candidate.dark; shares = c.loop-candidate.shares } in (
       turning_more g.D.Side.Side.rule c.args.active.now c.args.around.now scene c.in-Some.candidate _ (sym c.in-Some.ensures)
-          (g.met.D.Book.kept c.loop-candidate.met.displayed).2 (g.met.K.Book.kept c.loop-candidate.met.dark).2 c.trade_with-trade.ensures
+          (g.met.D.Book.kept c.loop-candidate.displayed).2 (g.met.K.Book.kept c.loop-candidate.dark).2 c.trade_with-trade.ensures
           _ _ _ _ _ _ _ c.loop-candidate.invariant.0 c.make_trade.ensures.displayed c.make_trade.ensures.dark c.make_trade.ensures.list,
       c.make_trade.ensures.places.0 ∙ c.loop-candidate.invariant.1,
       c.make_trade.ensures.places.1 ∙ c.loop-candidate.invariant.2,

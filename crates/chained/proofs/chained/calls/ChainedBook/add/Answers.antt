@@ -11,7 +11,7 @@ link-requires-clause-before_in_bounds g c =
     let f = fits (room_in rs) (orders_in rs) c.args.order c.in_ok-check_add.field-0 c.in_ok-check_add.ensures in
     omega (
       arith,
-      add_before g.S.Side.rule c.args.order rs b.chains.count (held b) f,
+      add_before g.S.Side.rule c.args.order rs b.chains.count (held b) f.room,
       c.seek-spot.ensures.before (by_price g.S.Side.rule c.args.order) (λ o r p. search rules),
     )
 
@@ -20,7 +20,7 @@ link-requires-clause-records_in_bounds g c =
     let b = c.args.self.now in
     let rs = b.chains.records.now in
     let f = fits (room_in rs) (orders_in rs) c.args.order c.in_ok-check_add.field-0 c.in_ok-check_add.ensures in
-    add_here g.S.Side.rule c.args.order rs b.chains.count (held b) f
+    add_here g.S.Side.rule c.args.order rs b.chains.count (held b) f.room
 
 pub invariant_of-self : goal.invariant_of-self
 invariant_of-self g c =
