@@ -120,12 +120,14 @@ impl Arrivals {
         let gone = self.at(index);
         close(&mut self.spots, index, self.count);
         self.count -= 1;
+        let cleared = self.spots[self.count] == Standing::BLANK;
+        prove!(cleared);
         gone
     }
 }
 
-// Closes up the spots in use, so many, after the order at the index has left: nothing of an order that left stays behind
-// them. Of the bare spots, which clauses on the arrivals do not see.
+// Closes up the spots in use, so many, after the order at the index has left: the later ones move down, and the last one is
+// cleared. Of the bare spots, which clauses on the arrivals do not see.
 fn close(spots: &mut [Standing], index: usize, end: usize)
     requires within { end ≤ length spots.old }
     requires used { index < end }

@@ -1,7 +1,6 @@
 use Rattle.std.proofs.Common.{◌-◌, length, ap, ◌∙◌, arith}
 use Rattle.std.proofs.lemmas.List.{length-set}
 use Rattle.chained.specs.Records.{order_of, next_of, with_free}
-use Rattle.chained.specs.declared.record.Record.{Record}
 use Rattle.chained.proofs.Columns.{freed_last, cleared_none, cleared_some}
 use Rattle.chained.proofs.chains.Chains.clear.Goals as goal
 use Rattle.chained.proofs.chains.Chains.clear.Goals.{then-end-gt0, else-end-gt0}
